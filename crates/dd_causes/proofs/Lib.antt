@@ -1,0 +1,3 @@
+pub mod AppendedLemmas
+pub mod CountsLemmas
+pub mod StepsLemmas

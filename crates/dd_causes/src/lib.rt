@@ -1,0 +1,11 @@
+//! The words that every layer of `ddeps` shares when it says why a call failed and what it left behind.
+//!
+//! A source, a sink or a store counts its faults, and a call that answers a fault says that the count
+//! rose while it ran (`specs/Counts.antt`). A call that was stopped in the middle of its output says
+//! which front of it was appended (`specs/Appended.antt`). A reader that may stop at each step is
+//! defined by its steps (`specs/Steps.antt`).
+//!
+//! The crate holds definitions and their lemmas, and one law over each of them; it runs nothing.
+#![tactic(auto)]
+
+pub mod laws;
