@@ -50,3 +50,7 @@ front_from_none old new whole k = record { left = whole; front = record { done =
 
 pub front_from_all : (old new : Option (List ℕ)) (whole : List ℕ) → Appends old new whole → AppendsFront old new whole
 front_from_all old new whole k = record { left = []; front = record { done = whole; split = sym (append-nil whole); grown = k } }
+
+-- nothing was appended where the text is as it was
+pub front_untouched : (old : Option (List ℕ)) (whole : List ℕ) → AppendsFront old old whole
+front_untouched old whole = front_from_none old old whole (appends_nothing old)
