@@ -1,0 +1,13 @@
+-- What is left to write is the end of the bytes, and the rest of them was appended.
+use Rattle.std.proofs.Common.{◌≤◌, length}
+use Rattle.dd_causes.specs.Appended.{AppendsAllBut}
+use Rattle.dd_io.proofs.writing.write_all.Given as goal
+
+abbrev pub invariant-loop-rest : goal.invariant-loop-rest
+invariant-loop-rest g l = record {
+  appended : AppendsAllBut (g.K.Sink.taken l.initial.out) (g.K.Sink.taken l.out) l.rest l.bytes;
+  later : g.K.Sink.faults l.initial.out ≤ g.K.Sink.faults l.out;
+}
+
+abbrev pub decreases-loop-rest : goal.decreases-loop-rest
+decreases-loop-rest g l = length l.rest

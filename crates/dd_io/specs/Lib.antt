@@ -1,0 +1,4 @@
+pub use Rattle.dd_causes.specs.Counts
+pub use Rattle.dd_causes.specs.Appended
+pub mod Taken
+pub mod Memory

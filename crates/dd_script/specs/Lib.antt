@@ -1,0 +1,13 @@
+pub use Rattle.dd_tokens.specs.Bytes
+pub use Rattle.dd_tokens.specs.Tokens
+pub use Rattle.dd_tokens.specs.Lexeme
+pub use Rattle.dd_kernels.specs.Shapes
+pub use Rattle.dd_kernels.specs.Table
+pub mod Lines
+pub mod Said
+pub mod Forms
+pub mod View
+pub mod Profile
+pub mod AboveView
+pub mod Rows
+pub mod Meaning

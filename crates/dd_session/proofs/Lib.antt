@@ -1,0 +1,4 @@
+pub mod PrintingLemmas
+pub mod TaskLemmas
+pub mod RowsLemmas
+pub mod OutcomesLemmas

@@ -1,0 +1,46 @@
+ghost use Rattle.std.specs.Prelude.{◌≡◌};
+
+/// How a command ended.
+#[derive(Clone, Copy, Debug, PartialEq, Eq)]
+pub enum Status {
+    /// The whole text was written.
+    Done,
+    /// Want of memory.
+    Memory,
+    /// The words are no command.
+    Words,
+    /// The source of the script failed.
+    ReadFault,
+    /// The sink of the output failed.
+    WriteFault,
+    /// The script needs what isn't built yet.
+    NotYet {
+        /// The first line, from 1, that does; the line of a `region` that is never ended; or 0 for a
+        /// text that is too long.
+        line: u32,
+    },
+}
+
+impl Status {
+    ghost use Rattle.dd_session.specs.Messages.{exit_of};
+
+    /// The exit status of the program.
+    pub fn exit_code(&self) -> u8
+        ensures { result ≡ exit_of self.now }
+    {
+        match self {
+            Status::Done => 0,
+            Status::Memory => 1,
+            Status::Words => 2,
+            Status::ReadFault => 4,
+            Status::WriteFault => 5,
+            Status::NotYet { .. } => 9,
+        }
+    }
+}
+
+/// What a command came to.
+#[derive(Clone, Copy, Debug, PartialEq, Eq)]
+pub struct Outcome {
+    pub status: Status,
+}

@@ -1,0 +1,5 @@
+pub mod BytesLemmas
+pub mod FrontLemmas
+pub mod TokensLemmas
+pub mod NumberLemmas
+mod TokensExamples

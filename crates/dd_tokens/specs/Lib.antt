@@ -1,0 +1,5 @@
+pub mod Bytes
+pub mod Tokens
+pub mod Lexeme
+pub mod TokenIn
+pub mod NextToken
