@@ -2,7 +2,7 @@
 use Rattle.std.specs.Prelude.{ℕ, List}
 
 -- A source: the bytes that are left, how many a call gives at most, the numbers of the calls that fail, from 1,
--- how many calls there were and how many of them failed.
+-- how many calls there were and how many of them failed. Both counts stop at the last number of 64 bits.
 pub record Supply : Type 0 where
   pub left : List ℕ
   pub most : ℕ

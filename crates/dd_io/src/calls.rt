@@ -1,4 +1,4 @@
-ghost use Rattle.std.specs.Prelude.{ℕ, ◌+◌, ◌↔◌, IsTrue, Contains};
+ghost use Rattle.std.specs.Prelude.{◌+◌, ◌↔◌, IsTrue, Contains};
 
 /// Whether the call that comes after so many calls has its number, from 1, among those of the calls that fail.
 pub(crate) fn next_fails(failing: &[u32], calls: u64) -> bool

@@ -11,9 +11,10 @@
 //!
 //! `read_all` asks for 8 KiB at a time, through a piece on the stack, and doubles its memory as it grows; `write_all`
 //! takes no memory. `MemSource` and `MemSink` are for tests: they give and take few bytes at a time, and fail at the
-//! calls that they are told. `StdSource` and `StdSink` are the edge to the system, and tell nothing of the bytes.
+//! calls that they are told. `StdSource` and `StdSink` are the edge to the system, of whose bytes nothing is known.
 //!
-//! What a call takes of a source stands in `specs/Taken.antt`, what the two in memory hold in `specs/Memory.antt`.
+//! What a call takes of a source stands in `specs/Taken.antt`, what callers see of the four types in `specs/Memory.antt`
+//! and `specs/Edge.antt`.
 #![tactic(auto)]
 
 mod calls;

@@ -1,4 +1,4 @@
-ghost use Rattle.std.specs.Prelude.{◌≡◌, ℕ, ◌+◌, ◌-◌, ◌<◌, ◌≤◌, min, List, [], ◌++◌, length, take, ◌↔◌, ◌⊎◌, Option, Some, IfOk, IsErr, OnErr, Contains};
+ghost use Rattle.std.specs.Prelude.{◌≡◌, ◌+◌, ◌-◌, ◌<◌, ◌≤◌, min, [], ◌++◌, length, take, ◌↔◌, ◌⊎◌, Some, IfOk, IsErr, OnErr, Contains};
 ghost use Rattle.std.specs.Io.KnownBytes.{WriteAppends};
 ghost use Rattle.dd_causes.specs.Counts.{FailsOnlyIfRose, one_more};
 

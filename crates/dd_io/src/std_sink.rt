@@ -1,4 +1,4 @@
-ghost use Rattle.std.specs.Prelude.{◌≡◌, ℕ, ◌<◌, ◌≤◌, length, Option, None, IfOk, is_ok, if◌then◌else◌};
+ghost use Rattle.std.specs.Prelude.{◌≡◌, ◌<◌, ◌≤◌, length, IfOk, is_ok, if◌then◌else◌};
 ghost use Rattle.std.specs.Io.KnownBytes.{WriteAppends};
 ghost use Rattle.dd_causes.specs.Counts.{FailsOnlyIfRose, one_more};
 
@@ -7,10 +7,12 @@ use crate::sink::Sink;
 use std::io::Write;
 use std::marker::Model;
 
-/// A writer of the system as a sink: a file, a pipe, standard output. It tells nothing of its bytes.
+/// A writer of std as a sink: standard output, a file, a pipe. It tells of its bytes what the writer tells, which is
+/// nothing at those three.
 ///
-/// It stands at the edge: that the writer puts the bytes where they belong is trusted. It is never flushed,
-/// so take a writer that keeps nothing back.
+/// It stands at the edge to the system: what such a writer does with the bytes is trusted. Each of its errors is a
+/// fault, and so is a call that takes nothing of a piece that isn't empty. It is never flushed, so give it a writer
+/// that keeps nothing back.
 #[derive(Drop)]
 pub struct StdSink<W> {
     inner: W,
@@ -18,35 +20,34 @@ pub struct StdSink<W> {
 }
 
 impl<W> Model for StdSink<W> {
-    ghost use Rattle.std.specs.Prelude.{ℕ};
+    ghost use Rattle.dd_io.specs.Edge.{Edge};
 
-    // How many faults it has counted.
-    ghost Value = { ℕ };
+    ghost Value = { Edge W };
 
-    ghost view = { λ s. s.faults };
+    ghost view = { λ s. record { inner = s.inner; faults = s.faults } };
 }
 
 impl<W: Write + Drop> StdSink<W> {
     /// A sink over this writer, with no fault yet.
     pub fn new(inner: W) -> StdSink<W>
-        ensures { result ≡ 0 }
+        ensures { result ≡ record { inner = inner; faults = 0 } }
     {
         StdSink { inner, faults: 0 }
     }
 }
 
 impl<W: Write + Drop> Sink for StdSink<W> {
-    ghost taken = { λ _. None };
+    ghost taken = { λ s. W.contents s.inner };
 
-    ghost faults = { λ s. s };
+    ghost faults = { λ s. s.faults };
 
     fn write(&mut self, bytes: &[u8]) -> Result<usize, IoFault>
         ensures within { IfOk result (λ n. n ≤ length bytes.now) }
         ensures progress { 0 < length bytes.now → IfOk result (λ n. 0 < n) }
-        ensures grown { WriteAppends None None result bytes.now }
-        ensures cause { FailsOnlyIfRose result self.old self.new }
-        ensures later { self.old ≤ self.new }
-        ensures counted { self.new ≡ (if is_ok result then self.old else one_more self.old) }
+        ensures grown { WriteAppends (W.contents self.old.inner) (W.contents self.new.inner) result bytes.now }
+        ensures cause { FailsOnlyIfRose result self.old.faults self.new.faults }
+        ensures later { self.old.faults ≤ self.new.faults }
+        ensures counted { self.new.faults ≡ (if is_ok result then self.old.faults else one_more self.old.faults) }
     {
         match self.inner.write(bytes) {
             Ok(count) if count > 0 || bytes.is_empty() => Ok(count),

@@ -1,10 +1,8 @@
 -- The kernel table at values worked by hand.
-use Rattle.std.proofs.Common.{◌≡◌, ℕ, ℤ, pos, negsuc, List, [], ◌∷◌, refl}
+use Rattle.std.proofs.Common.{◌≡◌, ℕ, ℤ, pos, List, [], ◌∷◌, refl}
 use Rattle.std.specs.Int.{int_wrap}
-use Rattle.dd_kernels.specs.declared.kernel.Kernel.TheVariants.{Fill, Copy, Add}
+use Rattle.dd_kernels.specs.declared.kernel.Kernel.TheVariants.{Add}
 use Rattle.dd_kernels.specs.declared.shape.Shape.{Shape}
-use Rattle.dd_kernels.specs.Shapes.{ShapesFit, HaveShapes}
-use Rattle.dd_kernels.specs.Lists.{wrapping_sum}
 use Rattle.dd_kernels.specs.Table.{results}
 
 abbrev shaped : ℕ → ℕ → Shape

@@ -1,6 +1,6 @@
 -- The kernel table: the lists of all accesses after a kernel, from those before it and their shapes.
 -- A list that the kernel only reads stays. A list that it only writes counts for nothing before it.
-use Rattle.std.specs.Prelude.{ℕ, ℤ, List, [], ◌∷◌, replicate}
+use Rattle.std.specs.Prelude.{ℤ, List, [], ◌∷◌, replicate}
 use Rattle.dd_kernels.specs.declared.kernel.Kernel.{Kernel}
 use Rattle.dd_kernels.specs.declared.kernel.Kernel.TheVariants.{Fill, Copy, Add}
 use Rattle.dd_kernels.specs.declared.shape.Shape.{Shape}

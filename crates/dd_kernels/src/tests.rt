@@ -4,6 +4,7 @@ ghost use Rattle.dd_kernels.specs.Shapes.{size_of};
 
 use crate::{Args, Kernel, Shape, plain};
 use std::alloc::{AllocError, Global};
+use std::process::Abort;
 use std::test::Fail;
 
 /// A name, a kernel with its scalar, the shape as rows and columns, the list, and what it becomes.
@@ -133,7 +134,7 @@ const TWO_LISTS: [TwoLists; 12] = [
 #[test]
 fn kernels_of_one_list(rt: HostRuntime) -> Result<(), Fail> {
     for row in &ONE_LIST {
-        check_one(&rt, row)?;
+        check_one(&rt, rt.alloc(), row)?;
     }
     Ok(())
 }
@@ -141,26 +142,26 @@ fn kernels_of_one_list(rt: HostRuntime) -> Result<(), Fail> {
 #[test]
 fn kernels_of_two_lists(rt: HostRuntime) -> Result<(), Fail> {
     for row in &TWO_LISTS {
-        check_two(&rt, row)?;
+        check_two(&rt, rt.alloc(), row)?;
     }
     Ok(())
 }
 
-fn check_one(rt: &HostRuntime, row: &OneList) -> Result<(), AllocError> {
+fn check_one(rt: &impl Abort, alloc: Global, row: &OneList) -> Result<(), AllocError> {
     let (name, kernel, scalar, (rows, cols), x, want) = *row;
     assert!(rt; kernel == Kernel::Fill, "{name}");
     assert_eq!(rt; x.len(), rows as usize * cols as usize, "{name}");
-    let args = after_one(rt.alloc(), kernel, scalar, Shape { rows, cols }, x)?;
+    let args = after_one(alloc, kernel, scalar, Shape { rows, cols }, x)?;
     assert_eq!(rt; args.bufs[0].as_slice(), want, "{name}");
     Ok(())
 }
 
-fn check_two(rt: &HostRuntime, row: &TwoLists) -> Result<(), AllocError> {
+fn check_two(rt: &impl Abort, alloc: Global, row: &TwoLists) -> Result<(), AllocError> {
     let (name, kernel, (rows, cols), x, y, want) = *row;
     assert!(rt; kernel != Kernel::Fill, "{name}");
     assert_eq!(rt; x.len(), rows as usize * cols as usize, "{name}");
     assert_eq!(rt; y.len(), rows as usize * cols as usize, "{name}");
-    let args = after_two(rt.alloc(), kernel, Shape { rows, cols }, x, y)?;
+    let args = after_two(alloc, kernel, Shape { rows, cols }, x, y)?;
     assert_eq!(rt; args.bufs[0].as_slice(), want, "{name}");
     assert_eq!(rt; args.bufs[1].as_slice(), y, "{name}");
     Ok(())
