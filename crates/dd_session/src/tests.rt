@@ -3,12 +3,15 @@
 use super::*;
 use dd_io::{MemSink, MemSource};
 use std::alloc::{AllocError, Global};
+use std::process::Abort;
 use std::test::Fail;
 
 /// The two by two array of ones, added to itself.
 const TWICE: &[u8] = b"array A 2 2 2 2 const 1\nregion\ntask add InOut(A) In(A)\nend\nprint A\n";
 
-/// How a source gives its bytes and a sink takes its own: at most so many a call, and the calls that fail.
+const USAGE: &str = "usage: ddeps [--workers N] [--journal] run|plain|gen N|demo N\n";
+
+/// How a source gives its bytes and a sink takes its own: at most so many a call, the calls that fail, and the room.
 #[derive(Clone, Copy)]
 struct Ends {
     given: usize,
@@ -34,7 +37,7 @@ struct Seen {
     err: Vec<u8>,
 }
 
-fn run_over(alloc: Global, words: &[&str], text: &[u8], ends: Ends) -> Result<Seen, AllocError> {
+fn run_over(alloc: Global, words: &[&str], text: &[u8], ends: &Ends) -> Result<Seen, AllocError> {
     let mut command = CommandWords::new(alloc);
     for word in words {
         command.push(word)?;
@@ -53,155 +56,165 @@ fn run_over(alloc: Global, words: &[&str], text: &[u8], ends: Ends) -> Result<Se
     })
 }
 
-// Each row: its name, the script, the status, and the text on the output.
+/// A name, the script, the exit status, and the text on the output.
+type Script = (&'static str, &'static [u8], u8, &'static str);
+
+const SCRIPTS: [Script; 6] = [
+    ("the empty text", b"", 0, ""),
+    ("an array added to itself", TWICE, 0, "2 2\n2 2\n"),
+    (
+        "a copy",
+        b"array A 1 2 1 2 const 5\narray B 1 2 1 2 zeros\nregion\ntask copy Out(B) In(A)\nend\nprint B",
+        0,
+        "5 5\n",
+    ),
+    (
+        "two rows of three",
+        b"array A 2 3 2 3 zeros\nregion\ntask fill -7 Out(A)\nend\nprint A",
+        0,
+        "-7 -7 -7\n-7 -7 -7\n",
+    ),
+    ("an open region", b"array A 1 1 1 1 zeros\nregion", 9, ""),
+    (
+        "nothing before a fault",
+        b"array A 1 1 1 1 zeros\nprint A\nprint B",
+        9,
+        "",
+    ),
+];
+
 #[test]
-fn scripts(rt: HostRuntime) -> Result<(), Fail> {
-    let not_yet = |line: u32| Status::NotYet { line };
-    let cases: [(&str, &[u8], Status, &str); 9] = [
-        ("the empty text", b"", Status::Done, ""),
-        (
-            "an array added to itself",
-            TWICE,
-            Status::Done,
-            "2 2\n2 2\n",
-        ),
-        (
-            "a copy",
-            b"array A 1 2 1 2 const 5\narray B 1 2 1 2 zeros\nregion\ntask copy Out(B) In(A)\nend\nprint B",
-            Status::Done,
-            "5 5\n",
-        ),
-        (
-            "columns come first",
-            b"array A 2 3 2 3 zeros\nregion\ntask fill -7 Out(A)\nend\nprint A",
-            Status::Done,
-            "-7 -7 -7\n-7 -7 -7\n",
-        ),
-        ("an unknown statement", b"foo A", not_yet(1), ""),
-        (
-            "an open region",
-            b"array A 1 1 1 1 zeros\nregion",
-            not_yet(2),
-            "",
-        ),
-        ("a print of nothing", b"# one\n\nprint A\n", not_yet(3), ""),
-        (
-            "sums that wrap",
-            b"array A 1 1 1 1 const 9223372036854775807\nregion\ntask add InOut(A) In(A)\nend\nprint A",
-            Status::Done,
-            "-2\n",
-        ),
-        (
-            "one past the numbers",
-            b"array A 1 1 1 1 const 9223372036854775808",
-            not_yet(1),
-            "",
-        ),
-    ];
-    for (name, text, status, out) in cases {
+fn scripts_by_pieces(rt: HostRuntime) -> Result<(), Fail> {
+    for script in &SCRIPTS {
         for given in [1, 7, 4096] {
-            let run = run_over(
-                rt.alloc(),
-                &["run"],
-                text,
-                Ends {
-                    given,
-                    taken: given,
-                    ..PLAIN
-                },
-            )?;
-            assert_eq!(rt; run.status, status, "{name}");
-            assert_eq!(rt; run.out.as_slice(), out.as_bytes(), "{name}");
+            check_script(&rt, rt.alloc(), script, given)?;
         }
     }
     Ok(())
 }
 
-// Each row: the words, the ends, the status, and the texts on the output and the error output.
+fn check_script(
+    rt: &impl Abort,
+    alloc: Global,
+    script: &Script,
+    given: usize,
+) -> Result<(), AllocError> {
+    let (name, text, exit, out) = *script;
+    let ends = Ends {
+        given,
+        taken: given,
+        ..PLAIN
+    };
+    let run = run_over(alloc, &["run"], text, &ends)?;
+    assert_eq!(rt; run.status.exit_code(), exit, "{name}");
+    assert_eq!(rt; run.out.as_slice(), out.as_bytes(), "{name}");
+    Ok(())
+}
+
+/// The words, the ends, the exit status, and the texts on the output and the error output.
+type Refusal = (
+    &'static [&'static str],
+    Ends,
+    u8,
+    &'static str,
+    &'static str,
+);
+
+const REFUSALS: [Refusal; 7] = [
+    (&["walk"], PLAIN, 2, "", USAGE),
+    (&[], PLAIN, 2, "", USAGE),
+    (&["run", "run"], PLAIN, 2, "", USAGE),
+    (&["run"], PLAIN, 0, "2 2\n2 2\n", ""),
+    (
+        &["run"],
+        Ends {
+            given: 1,
+            reads_failing: &[2],
+            ..PLAIN
+        },
+        4,
+        "",
+        "ddeps: read fault\n",
+    ),
+    (
+        &["run"],
+        Ends {
+            taken: 3,
+            writes_failing: &[2],
+            ..PLAIN
+        },
+        5,
+        "2 2",
+        "ddeps: write fault\n",
+    ),
+    (
+        &["run"],
+        Ends { room: 5, ..PLAIN },
+        5,
+        "2 2\n2",
+        "ddeps: write fault\n",
+    ),
+];
+
 #[test]
 fn refusals(rt: HostRuntime) -> Result<(), Fail> {
-    const USAGE: &str = "usage: ddeps [--workers N] [--journal] run|plain|gen N|demo N\n";
-    let cases: [(&[&str], Ends, Status, &str, &str); 8] = [
-        (&["walk"], PLAIN, Status::Words, "", USAGE),
-        (&[], PLAIN, Status::Words, "", USAGE),
-        (&["run", "run"], PLAIN, Status::Words, "", USAGE),
-        (&["run"], PLAIN, Status::Done, "2 2\n2 2\n", ""),
-        (
-            &["run"],
-            Ends {
-                given: 1,
-                reads_failing: &[2],
-                ..PLAIN
-            },
-            Status::ReadFault,
-            "",
-            "ddeps: read fault\n",
-        ),
-        (
-            &["run"],
-            Ends {
-                taken: 3,
-                writes_failing: &[2],
-                ..PLAIN
-            },
-            Status::WriteFault,
-            "2 2",
-            "ddeps: write fault\n",
-        ),
-        (
-            &["run"],
-            Ends { room: 5, ..PLAIN },
-            Status::WriteFault,
-            "2 2\n2",
-            "ddeps: write fault\n",
-        ),
-        (
-            &["run"],
-            Ends { room: 8, ..PLAIN },
-            Status::Done,
-            "2 2\n2 2\n",
-            "",
-        ),
-    ];
-    for (words, ends, status, out, err) in cases {
-        let run = run_over(rt.alloc(), words, TWICE, ends)?;
-        assert_eq!(rt; run.status, status);
-        assert_eq!(rt; run.out.as_slice(), out.as_bytes());
-        assert_eq!(rt; run.err.as_slice(), err.as_bytes());
+    for refusal in &REFUSALS {
+        check_refusal(&rt, rt.alloc(), refusal)?;
     }
     Ok(())
 }
 
+fn check_refusal(rt: &impl Abort, alloc: Global, refusal: &Refusal) -> Result<(), AllocError> {
+    let (words, ends, exit, out, err) = *refusal;
+    let run = run_over(alloc, words, TWICE, &ends)?;
+    assert_eq!(rt; run.status.exit_code(), exit);
+    assert_eq!(rt; run.out.as_slice(), out.as_bytes());
+    assert_eq!(rt; run.err.as_slice(), err.as_bytes());
+    Ok(())
+}
+
+const CALLS: [&[u32]; 9] = [&[1], &[2], &[3], &[4], &[5], &[6], &[7], &[8], &[9]];
+
 // Each call of the source or the sink fails in turn: the status tells which, and a front of the text was written.
 #[test]
 fn each_call_fails_in_turn(rt: HostRuntime) -> Result<(), Fail> {
-    const CALLS: [&[u32]; 9] = [&[1], &[2], &[3], &[4], &[5], &[6], &[7], &[8], &[9]];
-    for failing in CALLS {
-        let read = run_over(
-            rt.alloc(),
-            &["run"],
-            TWICE,
-            Ends {
-                given: 10,
-                reads_failing: failing,
-                ..PLAIN
-            },
-        )?;
-        assert!(rt; read.status == Status::ReadFault || failing[0] > 8);
-        assert_eq!(rt; read.out.is_empty(), read.status == Status::ReadFault);
-        let write = run_over(
-            rt.alloc(),
-            &["run"],
-            TWICE,
-            Ends {
-                taken: 1,
-                writes_failing: failing,
-                ..PLAIN
-            },
-        )?;
-        assert!(rt; write.status == Status::WriteFault || failing[0] > 8);
-        assert!(rt; b"2 2\n2 2\n".starts_with(write.out.as_slice()));
-        assert_eq!(rt; write.out.len(), (failing[0] as usize - 1).min(8));
+    for (written, failing) in CALLS.iter().enumerate() {
+        check_failing_read(&rt, rt.alloc(), failing)?;
+        check_failing_write(&rt, rt.alloc(), failing, written)?;
     }
+    Ok(())
+}
+
+fn check_failing_read(
+    rt: &impl Abort,
+    alloc: Global,
+    failing: &'static [u32],
+) -> Result<(), AllocError> {
+    let ends = Ends {
+        given: 10,
+        reads_failing: failing,
+        ..PLAIN
+    };
+    let run = run_over(alloc, &["run"], TWICE, &ends)?;
+    assert!(rt; run.status == Status::ReadFault || failing == [9].as_slice());
+    assert_eq!(rt; run.out.is_empty(), run.status == Status::ReadFault);
+    Ok(())
+}
+
+fn check_failing_write(
+    rt: &impl Abort,
+    alloc: Global,
+    failing: &'static [u32],
+    written: usize,
+) -> Result<(), AllocError> {
+    let ends = Ends {
+        taken: 1,
+        writes_failing: failing,
+        ..PLAIN
+    };
+    let run = run_over(alloc, &["run"], TWICE, &ends)?;
+    assert!(rt; run.status == Status::WriteFault || failing == [9].as_slice());
+    assert!(rt; b"2 2\n2 2\n".starts_with(run.out.as_slice()));
+    assert_eq!(rt; run.out.len(), written);
     Ok(())
 }
