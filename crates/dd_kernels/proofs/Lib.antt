@@ -1,2 +1,9 @@
 pub mod ListsLemmas
+pub mod MatricesLemmas
+pub mod NamesLemmas
+pub mod NumbersLemmas
+pub mod RisingLemmas
+pub mod RotationLemmas
+pub mod ShapesLemmas
+pub mod StencilLemmas
 pub mod TableExamples

@@ -1,3 +1,7 @@
-pub mod Shapes
 pub mod Lists
+pub mod Matrices
+pub mod Names
+pub mod Packed
+pub mod Shapes
+pub mod Signatures
 pub mod Table

@@ -1,14 +1,67 @@
 //! Kernels that compute each element from the scalar and the elements at its place.
-ghost use Rattle.std.specs.Prelude.{◌≡◌, ℕ, ℤ, length, replicate};
-ghost use Rattle.dd_kernels.specs.Lists.{wrapping_sum, zip_with};
+ghost use Rattle.std.specs.Prelude.{
+  ◌≡◌,
+  ℕ,
+  ℤ,
+  pos,
+  ◌+ℤ◌,
+  ◌-ℤ◌,
+  ◌*ℤ◌,
+  List,
+  length,
+  map,
+  replicate,
+};
+ghost use Rattle.std.specs.Int.{w64, int_bit_xor, int_min, int_max};
+ghost use Rattle.dd_kernels.specs.Lists.{
+  wrapped,
+  wrapping_sum,
+  wrapping_difference,
+  wrapping_product,
+  tabulate,
+  zip_with,
+};
 
-use crate::in_place::combine;
+use crate::in_place::{combine, update};
 
 /// Writes `k` into each element.
 pub fn fill(x: &mut [i64], k: i64)
     ensures { x.new ≡ replicate (length x.old) k }
 {
     x.fill(k);
+}
+
+/// Adds `k` to each element.
+#[tactic(auto, using(std::proofs::lemmas::Int::wrapping_add_is))]
+pub fn addk(x: &mut [i64], k: i64)
+    ensures { x.new ≡ map (λ a. wrapping_sum a k) x.old }
+{
+    update(x, |a| a.wrapping_add(k));
+}
+
+/// Multiplies each element by `k`.
+#[tactic(auto, using(std::proofs::lemmas::Int::wrapping_mul_is))]
+pub fn scale(x: &mut [i64], k: i64)
+    ensures { x.new ≡ map (λ a. wrapping_product a k) x.old }
+{
+    update(x, |a| a.wrapping_mul(k));
+}
+
+/// Subtracts each element from 0.
+#[tactic(auto, using(crate::proofs::NumbersLemmas::difference_from_zero))]
+pub fn neg(x: &mut [i64])
+    ensures { x.new ≡ map (λ a. wrapped (pos 0 -ℤ a)) x.old }
+{
+    update(x, |a| 0i64.wrapping_sub(a));
+}
+
+/// Writes `k` and the numbers after it.
+pub fn iota(x: &mut [i64], k: i64)
+    ensures { x.new ≡ tabulate (length x.old) (λ i. wrapped (k +ℤ pos i)) }
+{
+    for (i, a) in x.iter_mut().enumerate() {
+        *a = k.wrapping_add(i as i64);
+    }
 }
 
 /// Writes `y` into `x`.
@@ -19,11 +72,70 @@ pub fn copy(x: &mut [i64], y: &[i64])
     x.copy_from_slice(y);
 }
 
-/// Adds `y` to `x`, in two's complement.
+/// Exchanges `x` and `y`.
+pub fn swap(x: &mut [i64], y: &mut [i64])
+    requires { length x.old ≡ length y.old }
+    ensures first { x.new ≡ y.old }
+    ensures second { y.new ≡ x.old }
+{
+    x.swap_with_slice(y);
+}
+
+/// Adds `y` to `x`.
 #[tactic(auto, using(std::proofs::lemmas::Int::wrapping_add_is))]
 pub fn add(x: &mut [i64], y: &[i64])
     requires { length x.old ≡ length y.now }
     ensures { x.new ≡ zip_with wrapping_sum x.old y.now }
 {
     combine(x, y, |a, b| a.wrapping_add(b));
+}
+
+/// Subtracts `y` from `x`.
+#[tactic(auto, using(std::proofs::lemmas::Int::wrapping_sub_is))]
+pub fn sub(x: &mut [i64], y: &[i64])
+    requires { length x.old ≡ length y.now }
+    ensures { x.new ≡ zip_with wrapping_difference x.old y.now }
+{
+    combine(x, y, |a, b| a.wrapping_sub(b));
+}
+
+/// Multiplies `x` by `y`, place by place.
+#[tactic(auto, using(std::proofs::lemmas::Int::wrapping_mul_is))]
+pub fn mul(x: &mut [i64], y: &[i64])
+    requires { length x.old ≡ length y.now }
+    ensures { x.new ≡ zip_with wrapping_product x.old y.now }
+{
+    combine(x, y, |a, b| a.wrapping_mul(b));
+}
+
+/// Adds `k` times `y` to `x`.
+pub fn axpy(x: &mut [i64], y: &[i64], k: i64)
+    requires { length x.old ≡ length y.now }
+    ensures { x.new ≡ zip_with (λ a b. wrapped (a +ℤ k *ℤ b)) x.old y.now }
+{
+    combine(x, y, |a, b| a.wrapping_add(k.wrapping_mul(b)));
+}
+
+/// The exclusive or of `x` and `y`, bit by bit.
+pub fn xor(x: &mut [i64], y: &[i64])
+    requires { length x.old ≡ length y.now }
+    ensures { x.new ≡ zip_with (int_bit_xor w64) x.old y.now }
+{
+    combine(x, y, |a, b| a ^ b);
+}
+
+/// The lesser of `x` and `y`, place by place.
+pub fn min(x: &mut [i64], y: &[i64])
+    requires { length x.old ≡ length y.now }
+    ensures { x.new ≡ zip_with int_min x.old y.now }
+{
+    combine(x, y, |a, b| a.min(b));
+}
+
+/// The greater of `x` and `y`, place by place.
+pub fn max(x: &mut [i64], y: &[i64])
+    requires { length x.old ≡ length y.now }
+    ensures { x.new ≡ zip_with int_max x.old y.now }
+{
+    combine(x, y, |a, b| a.max(b));
 }

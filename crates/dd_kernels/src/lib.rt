@@ -1,26 +1,43 @@
-//! Kernels on owned lists of Int64: what each computes, and the plain way to do so.
+//! The kernels: what each is called, which accesses and shapes it takes, what it computes, and the plain
+//! way to do so.
 //!
-//! A kernel works on the buffers of its accesses, which the caller has gathered and will store back.
-//! [`plain`] runs one on [`Args`] and changes the buffers in place. It takes no memory, and needs one
-//! pass over them for each kernel here.
+//! A kernel works on the buffers of its accesses, which the caller has gathered and will store back, as
+//! lists of Int64 in column-major order. [`kernel_named`] reads its name, [`signature_of`] and
+//! [`shapes_fit`] say what it takes. [`plain`] runs one on [`Args`] and changes the buffers in place. None
+//! of these takes memory. The kernels on packed triangles stand in the table, and are run elsewhere.
 //!
-//! What a kernel computes is one equation of `specs/Table.antt`, and which shapes it takes one of
-//! `specs/Shapes.antt`. Inside, `run` goes by the number of accesses and lends their buffers as slices,
-//! `one_list` and `two_lists` go by the kernel, and `element_wise` has the work itself.
+//! What a kernel computes is one equation of `specs/Table.antt`; the names stand in `specs/Names.antt`, the
+//! accesses in `specs/Signatures.antt`, the shapes in `specs/Shapes.antt`. A list that a kernel only writes
+//! counts for nothing before it.
+//!
+//! Inside, `run` goes by the number of accesses and lends their buffers as slices, `one_list`, `two_lists`
+//! and `three_lists` go by the kernel, and the other modules have the work itself: `element_wise` place by
+//! place, `ordered` where places count, `total` one number of lists, `matrix` and `stencil` column by column.
 #![tactic(auto)]
 
 mod args;
 mod element_wise;
 mod in_place;
 mod kernel;
+mod matrix;
+mod name;
 mod one_list;
+mod ordered;
 mod run;
 mod shape;
+mod shape_rule;
+mod signature;
+mod stencil;
 #[cfg(test)]
 mod tests;
+mod three_lists;
+mod total;
 mod two_lists;
 
 pub use args::Args;
-pub use kernel::Kernel;
+pub use kernel::{Kernel, is_plain};
+pub use name::kernel_named;
 pub use run::plain;
 pub use shape::Shape;
+pub use shape_rule::shapes_fit;
+pub use signature::{Mode, Modes, Signature, signature_of};

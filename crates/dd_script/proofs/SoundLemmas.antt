@@ -11,6 +11,7 @@ use Rattle.dd_kernels.specs.declared.kernel.Kernel.{Kernel}
 use Rattle.dd_kernels.specs.declared.kernel.Kernel.TheVariants.{Fill, Copy, Add}
 use Rattle.dd_kernels.specs.declared.shape.Shape.{Shape}
 use Rattle.dd_kernels.specs.Shapes.{ShapesFit}
+use Rattle.dd_kernels.specs.Table.{IsPlain}
 use Rattle.dd_script.specs.declared.row.FirstRow.{FirstRow}
 use Rattle.dd_script.specs.declared.row.FirstRow.TheVariants.{Array, Task, Print}
 use Rattle.dd_script.specs.Said.{Said, Filling, nothing, array, region, fill, copy, add, end, print}
@@ -36,10 +37,12 @@ grow_shape s t n h = sym (get_or_append_left s t _ (n - 1) (omega (arith, h.0, h
 grow_task : (s t : List Shape) (kernel : Kernel) (target source : ℕ) → IsSoundTask s kernel target source → IsSoundTask (s ++ t) kernel target source
 grow_task s t kernel target zero h = record {
   named = (grow_name s t target h.named.0, tt);
+  plain = h.plain;
   fit = subst (λ x. ShapesFit kernel (x ∷ [])) (grow_shape s t target h.named.0) h.fit;
 }
 grow_task s t kernel target (suc source) h = record {
   named = (grow_name s t target h.named.0, (grow_name s t (suc source) h.named.1.0, tt));
+  plain = h.plain;
   fit = subst (λ x. ShapesFit kernel (x ∷ shape_numbered (s ++ t) (suc source) ∷ [])) (grow_shape s t target h.named.0)
       (subst (λ x. ShapesFit kernel (shape_numbered s target ∷ x ∷ [])) (grow_shape s t (suc source) h.named.1.0) h.fit);
 }
@@ -91,14 +94,15 @@ numbered shapes p = let e : p + 1 - 1 ≡ p = omega arith in ap (λ n. get_or sh
 same_parts : (s t : Shape) → same_shape s t ≡ true → (s.rows ≡ t.rows) × (s.cols ≡ t.cols)
 same_parts s t e = let p = and_parts _ _ e in (eqb-true _ _ p.0, eqb-true _ _ p.1)
 
-sound_two : (a : Above) (kernel : Kernel) (t s : ℕ) → ((x y : Shape) → (x.rows ≡ y.rows) × (x.cols ≡ y.cols) → ShapesFit kernel (x ∷ y ∷ [])) → NamesArray a.shapes (t + 1) → NamesArray a.shapes (s + 1) → same_shape (shape_at a.shapes t) (shape_at a.shapes s) ≡ true → IsSoundTask a.shapes kernel (t + 1) (s + 1)
-sound_two a kernel t s fits nt ns same =
+sound_two : (a : Above) (kernel : Kernel) (t s : ℕ) → IsPlain kernel → ((x y : Shape) → (x.rows ≡ y.rows) × (x.cols ≡ y.cols) → ShapesFit kernel (x ∷ y ∷ [])) → NamesArray a.shapes (t + 1) → NamesArray a.shapes (s + 1) → same_shape (shape_at a.shapes t) (shape_at a.shapes s) ≡ true → IsSoundTask a.shapes kernel (t + 1) (s + 1)
+sound_two a kernel t s plain fits nt ns same =
     let next : suc s ≡ s + 1 = omega arith in
     let ns' : NamesArray a.shapes (suc s) = subst (NamesArray a.shapes) (sym next) ns in
     let target : shape_at a.shapes t ≡ shape_numbered a.shapes (t + 1) = sym (numbered a.shapes t) in
     let source : shape_at a.shapes s ≡ shape_numbered a.shapes (suc s) = sym (numbered a.shapes s) ∙ ap (shape_numbered a.shapes) (sym next) in
     subst (λ n. IsSoundTask a.shapes kernel (t + 1) n) next (record {
       named = (nt, (ns', tt));
+      plain = plain;
       fit = subst (λ x. ShapesFit kernel (x ∷ shape_numbered a.shapes (suc s) ∷ [])) target
           (subst (λ y. ShapesFit kernel (shape_at a.shapes t ∷ y ∷ [])) source (fits _ _ (same_parts _ _ same)));
     })
@@ -136,17 +140,17 @@ unfolding one_array_task
 one_sound a k x paired r e =
     let b = bind_some (place_named a.names x) _ r e in
     let name = named_after a b.0 paired (place_within a.names x b.0 b.1) in
-    subst (λ q. (shapes_of (q ∷ []) ≡ []) × IsSoundRow a.shapes q) (same_Some _ _ b.2) (refl, record { named = (name, tt); fit = refl })
+    subst (λ q. (shapes_of (q ∷ []) ≡ []) × IsSoundRow a.shapes q) (same_Some _ _ b.2) (refl, record { named = (name, tt); plain = tt; fit = tt })
 
-pair_sound : (a : Above) (kernel : Kernel) (x y : List ℕ) → ((s t : Shape) → (s.rows ≡ t.rows) × (s.cols ≡ t.cols) → ShapesFit kernel (s ∷ t ∷ [])) → length a.names ≡ length a.shapes → (r : FirstRow) → two_array_task a kernel x y ≡ Some r → (shapes_of (r ∷ []) ≡ []) × IsSoundRow a.shapes r
+pair_sound : (a : Above) (kernel : Kernel) (x y : List ℕ) → IsPlain kernel → ((s t : Shape) → (s.rows ≡ t.rows) × (s.cols ≡ t.cols) → ShapesFit kernel (s ∷ t ∷ [])) → length a.names ≡ length a.shapes → (r : FirstRow) → two_array_task a kernel x y ≡ Some r → (shapes_of (r ∷ []) ≡ []) × IsSoundRow a.shapes r
 unfolding two_array_task
-pair_sound a kernel x y fits paired r e =
+pair_sound a kernel x y plain fits paired r e =
     let t = bind_some (place_named a.names x) _ r e in
     let s = bind_some (place_named a.names y) _ r t.2 in
     let g = guard_some _ _ _ s.2 in
     let nt = named_after a t.0 paired (place_within a.names x t.0 t.1) in
     let ns = named_after a s.0 paired (place_within a.names y s.0 s.1) in
-    subst (λ q. (shapes_of (q ∷ []) ≡ []) × IsSoundRow a.shapes q) (same_Some _ _ g.1) (refl, sound_two a kernel t.0 s.0 fits nt ns g.0)
+    subst (λ q. (shapes_of (q ∷ []) ≡ []) × IsSoundRow a.shapes q) (same_Some _ _ g.1) (refl, sound_two a kernel t.0 s.0 plain fits nt ns g.0)
 
 after_keeps : (n : ℕ) (a m : Above) (made : List FirstRow) (x : Said) → length a.names ≡ length a.shapes → after n a x ≡ Some (m, made) → Keeps a m made
 unfolding after after_region after_end after_print
@@ -156,8 +160,8 @@ after_keeps n a m made region paired e =
     let g = guard_some _ _ _ e in
     subst (λ (p : Above × List FirstRow). Keeps a p.0 p.1) (same_Some _ _ g.1) (keeps_none a _ paired refl refl)
 after_keeps n a m made (fill k x) paired e = task_keeps a m made _ paired (one_sound a k x paired) e
-after_keeps n a m made (copy x y) paired e = task_keeps a m made _ paired (pair_sound a Copy x y (λ s t h. h) paired) e
-after_keeps n a m made (add x y) paired e = task_keeps a m made _ paired (pair_sound a Add x y (λ s t h. h) paired) e
+after_keeps n a m made (copy x y) paired e = task_keeps a m made _ paired (pair_sound a Copy x y tt (λ s t h. h) paired) e
+after_keeps n a m made (add x y) paired e = task_keeps a m made _ paired (pair_sound a Add x y tt (λ s t h. h) paired) e
 after_keeps n a m made end paired e =
     let g = guard_some _ _ _ e in
     subst (λ (p : Above × List FirstRow). Keeps a p.0 p.1) (same_Some _ _ g.1) (keeps_none a _ paired refl refl)

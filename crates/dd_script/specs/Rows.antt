@@ -4,6 +4,7 @@ use Rattle.std.specs.List.{AllByRecursion}
 use Rattle.dd_kernels.specs.declared.kernel.Kernel.{Kernel}
 use Rattle.dd_kernels.specs.declared.shape.Shape.{Shape}
 use Rattle.dd_kernels.specs.Shapes.{ShapesFit}
+use Rattle.dd_kernels.specs.Table.{IsPlain}
 use Rattle.dd_script.specs.declared.row.FirstRow.{FirstRow}
 use Rattle.dd_script.specs.declared.row.FirstRow.TheVariants.{Array, Task, Print}
 use Rattle.dd_script.specs.Meaning.{shapes_of, arguments, picked_shapes}
@@ -14,6 +15,7 @@ NamesArray shapes number = (1 ≤ number) × (number ≤ length shapes)
 
 pub record IsSoundTask (shapes : List Shape) (kernel : Kernel) (target source : ℕ) : Type 0 where
   pub named : AllByRecursion (NamesArray shapes) (arguments target source)
+  pub plain : IsPlain kernel
   pub fit : ShapesFit kernel (picked_shapes shapes (arguments target source))
 
 -- an array has 1 to 64 rows and columns

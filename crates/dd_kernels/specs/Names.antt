@@ -1,0 +1,35 @@
+-- The words that name the kernels.
+use Rattle.std.specs.Prelude.{ℕ, List, codes}
+use Rattle.dd_kernels.specs.declared.kernel.Kernel.{Kernel}
+use Rattle.dd_kernels.specs.declared.kernel.Kernel.TheVariants.{Fill, Addk, Scale, Copy, Copyt, Add, Sub, Mul, Axpy, Xor, Min, Max, Neg, Rev, Rot, Sort, Scan, Sum, Dot, Swap, Iota, Gemm, Gemv, Stencil5, Trmv, TrsvUnit, TrsmUnit, Mirror, SyrkPacked}
+
+abbrev pub name_of : Kernel → List ℕ
+name_of Fill = codes "fill"
+name_of Addk = codes "addk"
+name_of Scale = codes "scale"
+name_of Copy = codes "copy"
+name_of Copyt = codes "copyt"
+name_of Add = codes "add"
+name_of Sub = codes "sub"
+name_of Mul = codes "mul"
+name_of Axpy = codes "axpy"
+name_of Xor = codes "xor"
+name_of Min = codes "min"
+name_of Max = codes "max"
+name_of Neg = codes "neg"
+name_of Rev = codes "rev"
+name_of Rot = codes "rot"
+name_of Sort = codes "sort"
+name_of Scan = codes "scan"
+name_of Sum = codes "sum"
+name_of Dot = codes "dot"
+name_of Swap = codes "swap"
+name_of Iota = codes "iota"
+name_of Gemm = codes "gemm"
+name_of Gemv = codes "gemv"
+name_of Stencil5 = codes "stencil5"
+name_of Trmv = codes "trmv"
+name_of TrsvUnit = codes "trsv_unit"
+name_of TrsmUnit = codes "trsm_unit"
+name_of Mirror = codes "mirror"
+name_of SyrkPacked = codes "syrk_packed"
