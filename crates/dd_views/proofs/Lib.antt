@@ -1,0 +1,10 @@
+pub mod SignedLemmas
+pub mod ProgressionLemmas
+pub mod SpanLemmas
+pub mod TriangleLemmas
+pub mod ListsLemmas
+pub mod ColumnsLemmas
+pub mod ViewLemmas
+pub mod WayLemmas
+pub mod ElementsLemmas
+mod IndexListExamples

@@ -1,0 +1,7 @@
+pub mod Progression
+pub mod Span
+pub mod IndexList
+pub mod Views
+pub mod Triangle
+pub mod Columns
+pub mod Places
