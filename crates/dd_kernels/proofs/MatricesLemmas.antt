@@ -33,18 +33,18 @@ pub sum_below_same : (n : ℕ) (f g : ℕ → ℤ) → ((i : ℕ) → i < n → 
 sum_below_same zero f g each = refl
 sum_below_same (suc n) f g each = ap2 ◌+ℤ◌ (sum_below_same n f g (λ i below. each i (omega arith))) (each n (omega arith))
 
-length_zip_with : (op : ℤ → ℤ → ℤ) (xs ys : List ℤ) → length xs ≡ length ys → length (zip_with op xs ys) ≡ length xs
+pub length_zip_with : (op : ℤ → ℤ → ℤ) (xs ys : List ℤ) → length xs ≡ length ys → length (zip_with op xs ys) ≡ length xs
 length_zip_with op [] ys same = refl
 length_zip_with op (x ∷ xs) [] same = absurd (omega arith)
 length_zip_with op (x ∷ xs) (y ∷ ys) same = ap suc (length_zip_with op xs ys (omega arith))
 
-element_zip_with : (op : ℤ → ℤ → ℤ) (xs ys : List ℤ) (i : ℕ) → i < length xs → length xs ≡ length ys → element (zip_with op xs ys) i ≡ op (element xs i) (element ys i)
+pub element_zip_with : (op : ℤ → ℤ → ℤ) (xs ys : List ℤ) (i : ℕ) → i < length xs → length xs ≡ length ys → element (zip_with op xs ys) i ≡ op (element xs i) (element ys i)
 element_zip_with op [] ys i below same = absurd (omega arith)
 element_zip_with op (x ∷ xs) [] i below same = absurd (omega arith)
 element_zip_with op (x ∷ xs) (y ∷ ys) zero below same = refl
 element_zip_with op (x ∷ xs) (y ∷ ys) (suc i) below same = element_zip_with op xs ys i (omega arith) (omega arith)
 
-zip_with_tabulated : (op : ℤ → ℤ → ℤ) (xs ys : List ℤ) (n : ℕ) (f : ℕ → ℤ) → length xs ≡ n → length ys ≡ n → ((i : ℕ) → i < n → op (element xs i) (element ys i) ≡ f i) → zip_with op xs ys ≡ tabulate n f
+pub zip_with_tabulated : (op : ℤ → ℤ → ℤ) (xs ys : List ℤ) (n : ℕ) (f : ℕ → ℤ) → length xs ≡ n → length ys ≡ n → ((i : ℕ) → i < n → op (element xs i) (element ys i) ≡ f i) → zip_with op xs ys ≡ tabulate n f
 zip_with_tabulated op xs ys n f long_x long_y each =
     let long = length_zip_with op xs ys (omega arith) in
     tabulated_whole f (zip_with op xs ys) (λ i below. element_zip_with op xs ys i (omega (arith, long)) (omega arith) ∙ each i (omega (arith, long))) ∙ ap (λ (l : ℕ). tabulate l f) (long ∙ long_x)
@@ -59,26 +59,25 @@ element_part_ahead xs ys from to i same below =
     element_part xs from to i below ∙ (sym (get_or-drop from xs i (pos 0)) ∙ (ap (λ (l : List ℤ). element l i) same ∙ get_or-drop from ys i (pos 0)))
 
 -- what is added to what there is so far is added to the sum so far
-adds_on : (old a x y : List ℤ) (n q : ℕ) → (0 < q → y ≡ tabulate n (λ i. wrapped (element old i +ℤ sum_below q (λ p. element a (p * n + i) *ℤ element x p)))) → (q ≡ 0 → y ≡ old) → (i : ℕ) (t : ℤ) → i < n → wrapped (element y i +ℤ t) ≡ wrapped ((element old i +ℤ sum_below q (λ p. element a (p * n + i) *ℤ element x p)) +ℤ t)
-adds_on old a x y n zero later first i t below =
+adds_on : (old y : List ℤ) (f : ℕ → ℕ → ℤ) (n q : ℕ) → (0 < q → y ≡ tabulate n (λ i. wrapped (element old i +ℤ sum_below q (f i)))) → (q ≡ 0 → y ≡ old) → (i : ℕ) (t : ℤ) → i < n → wrapped (element y i +ℤ t) ≡ wrapped ((element old i +ℤ sum_below q (f i)) +ℤ t)
+adds_on old y f n zero later first i t below =
     ap (λ (l : List ℤ). wrapped (element l i +ℤ t)) (first refl) ∙ ap (λ (o : ℤ). wrapped (o +ℤ t)) (sym (+ℤ_idr (element old i)))
-adds_on old a x y n (suc q) later first i t below =
-    let before : ℕ → ℤ = λ i. element old i +ℤ sum_below (suc q) (λ p. element a (p * n + i) *ℤ element x p) in
+adds_on old y f n (suc q) later first i t below =
+    let before : ℕ → ℤ = λ i. element old i +ℤ sum_below (suc q) (f i) in
     let was : element y i ≡ wrapped (before i) = ap (λ (l : List ℤ). element l i) (later (omega arith)) ∙ element_tabulate n (λ i. wrapped (before i)) i below in
     ap (λ (o : ℤ). wrapped (o +ℤ t)) was ∙ int_wrap-add_left w64 (before i) t
 
--- one product more
-regrouped : (o s k a : ℤ) → (o +ℤ s) +ℤ k *ℤ a ≡ o +ℤ (s +ℤ a *ℤ k)
-regrouped o s k a = +ℤ_assoc o s (k *ℤ a) ∙ ap (λ (p : ℤ). o +ℤ (s +ℤ p)) (*ℤ_comm k a)
+-- one term more at each place of a column, each a multiple of an element of another column
+pub terms_more : (old y column : List ℤ) (f : ℕ → ℕ → ℤ) (n q : ℕ) (k : ℤ) → length y ≡ n → length column ≡ n → ((i : ℕ) → i < n → k *ℤ element column i ≡ f i q) → (0 < q → y ≡ tabulate n (λ i. wrapped (element old i +ℤ sum_below q (f i)))) → (q ≡ 0 → y ≡ old) → zip_with (λ u v. wrapped (u +ℤ k *ℤ v)) y column ≡ tabulate n (λ i. wrapped (element old i +ℤ sum_below (q + 1) (f i)))
+terms_more old y column f n q k long_y long each later first =
+    zip_with_tabulated (λ u v. wrapped (u +ℤ k *ℤ v)) y column n (λ i. wrapped (element old i +ℤ sum_below (q + 1) (f i))) long_y long
+    (λ i below.
+    ap (λ (t : ℤ). wrapped (element y i +ℤ t)) (each i below) ∙ (adds_on old y f n q later first i (f i q) below ∙ rw add-one (ap wrapped (+ℤ_assoc (element old i) (sum_below q (f i)) (f i q)))))
 
 -- one column more of a product with a column
 pub column_product_more : (old a x y column : List ℤ) (n q : ℕ) (k : ℤ) → length y ≡ n → length column ≡ n → k ≡ element x q → ((i : ℕ) → i < n → element column i ≡ element a (q * n + i)) → (0 < q → y ≡ tabulate n (λ i. wrapped (element old i +ℤ sum_below q (λ p. element a (p * n + i) *ℤ element x p)))) → (q ≡ 0 → y ≡ old) → zip_with (λ u v. wrapped (u +ℤ k *ℤ v)) y column ≡ tabulate n (λ i. wrapped (element old i +ℤ sum_below (q + 1) (λ p. element a (p * n + i) *ℤ element x p)))
 column_product_more old a x y column n q k long_y long factor each later first =
-    let sum : ℕ → ℤ = λ i. sum_below q (λ p. element a (p * n + i) *ℤ element x p) in
-    zip_with_tabulated (λ u v. wrapped (u +ℤ k *ℤ v)) y column n (λ i. wrapped (element old i +ℤ sum_below (q + 1) (λ p. element a (p * n + i) *ℤ element x p))) long_y long
-    (λ i below.
-    let there = element a (q * n + i) in
-    ap (λ (v : ℤ). wrapped (element y i +ℤ k *ℤ v)) (each i below) ∙ (adds_on old a x y n q later first i (k *ℤ there) below ∙ (ap wrapped (regrouped (element old i) (sum i) k there) ∙ rw add-one (ap (λ (f : ℤ). wrapped (element old i +ℤ (sum i +ℤ there *ℤ f))) factor))))
+    terms_more old y column (λ i p. element a (p * n + i) *ℤ element x p) n q k long_y long (λ i below. ap2 ◌*ℤ◌ factor (each i below) ∙ *ℤ_comm (element x q) (element a (q * n + i))) later first
 
 -- a column of a product of matrices
 pub product_column : (old a b column part ys : List ℤ) (rows inner j : ℕ) → length column ≡ rows → length part ≡ inner → ((i : ℕ) → i < rows → element column i ≡ element old (j * rows + i)) → ((q : ℕ) → q < inner → element part q ≡ element b (j * inner + q)) → ys ≡ tabulate (length column) (λ i. wrapped (element column i +ℤ sum_below (length part) (λ q. element a (q * length column + i) *ℤ element part q))) → ys ≡ tabulate rows (λ i. wrapped (element old (j * rows + i) +ℤ sum_below inner (λ q. element a (q * rows + i) *ℤ element b (j * inner + q))))

@@ -4,7 +4,8 @@
 //! A kernel works on the buffers of its accesses, which the caller has gathered and will store back, as
 //! lists of Int64 in column-major order. [`kernel_named`] reads its name, [`signature_of`] and
 //! [`shapes_fit`] say what it takes. [`plain`] runs one on [`Args`] and changes the buffers in place. None
-//! of these takes memory. The kernels on packed triangles stand in the table, and are run elsewhere.
+//! of these takes memory. The kernels on packed triangles stand in the table, and are run elsewhere; [`addk`],
+//! [`axpy`] and [`combine`] are there for them.
 //!
 //! What a kernel computes is one equation of `specs/Table.antt`; the names stand in `specs/Names.antt`, the
 //! accesses in `specs/Signatures.antt`, the shapes in `specs/Shapes.antt`. A list that a kernel only writes
@@ -35,6 +36,8 @@ mod total;
 mod two_lists;
 
 pub use args::Args;
+pub use element_wise::{addk, axpy};
+pub use in_place::combine;
 pub use kernel::{Kernel, is_plain};
 pub use name::kernel_named;
 pub use run::plain;
