@@ -1,0 +1,4 @@
+pub mod ColumnsLemmas
+pub mod PartsLemmas
+pub mod ProductLemmas
+pub mod SolutionLemmas
