@@ -1,11 +1,17 @@
 -- Packed triangles by their columns.
-use Rattle.std.proofs.Common.{◌≡◌, ◌≢◌, ℕ, zero, suc, ◌+◌, ◌-◌, ◌*◌, ◌<◌, ◌≤◌, ◌==◌, ◌&&◌, nat_eq, cond, ℤ, pos, List, [], ◌∷◌, ◌++◌, map, length, take, drop, inl, inr, add-one, refl, ap, sym, ◌∙◌, arith}
+use Rattle.std.proofs.Common.{◌≡◌, ◌≢◌, ℕ, zero, suc, ◌+◌, ◌-◌, ◌*◌, ◌<◌, ◌≤◌, ◌==◌, ◌&&◌, nat_eq, cond, ℤ, pos, List, [], ◌∷◌, ◌++◌, map, length, take, drop, append_assoc, inl, inr, add-one, refl, ap, sym, ◌∙◌, arith}
 use Rattle.std.specs.List.{flat_map, range_with_len}
 use Rattle.std.proofs.lemmas.Bool.{cases_lt, cases_order}
 use Rattle.std.proofs.lemmas.Bool.Decides.{nat_tests}
-use Rattle.std.proofs.lemmas.List.{get_or-drop, get_or-take, drop-drop, take_all, length-take}
-use Rattle.dd_kernels.specs.Lists.{element}
+use Rattle.std.proofs.lemmas.List.{get_or-drop, get_or-take, drop-drop, take_all, append-nil, map-append, length-take}
+use Rattle.std.proofs.lemmas.Simd.{map-map}
+use Rattle.std.proofs.lemmas.List.FromFn.{length-map-range_with_len, get_or-map-range_with_len}
+use Rattle.std.proofs.lemmas.Slice.{take-put_mid}
+use borrow.Rule.Slice.PartMut.{put_mid}
+use Rattle.dd_kernels.specs.Lists.{element, tabulate}
 use Rattle.dd_kernels.specs.Packed.{packed, lower_pairs, strictly_lower_pairs, strictly_upper_pairs}
+use Rattle.dd_kernels.proofs.ListsLemmas.{ap2, tabulated_whole}
+use Rattle.dd_kernels.proofs.MatricesLemmas.{length_tabulate}
 
 -- the rows of a column, and some columns of a triangle: column j has `width j` rows from `top j` on
 abbrev pub column_pairs : (ℕ → ℕ) → (ℕ → ℕ) → ℕ → List (ℕ × ℕ)
@@ -137,3 +143,31 @@ lower_all n l whole =
 pub lower_left : (n b : ℕ) (l left : List ℤ) → b < n → 2 * length l ≡ n * (n + 1) → left ≡ take (before (λ c. n - c) (b + 1)) l → length left ≡ before (λ c. n - c) b + (n - b)
 lower_left n b l left within whole is =
     omega (arith, ap length is, length-take (before (λ c. n - c) (b + 1)) l, before_more (λ c. n - c) b, lower_fits n b (length l) within whole)
+
+-- one column more, at the end
+columns_next : (top width : ℕ → ℕ) (c k j : ℕ) → c + k ≡ j → columns top width c (suc k) ≡ columns top width c k ++ column_pairs top width j
+columns_next top width c zero j at =
+    let first : c ≡ j = omega arith in
+    append-nil (column_pairs top width c) ∙ ap (column_pairs top width) first
+columns_next top width c (suc k) j at =
+    ap (λ (ps : List (ℕ × ℕ)). column_pairs top width c ++ ps) (columns_next top width (c + 1) k j (omega arith)) ∙ sym (append_assoc (column_pairs top width c) (columns top width (c + 1) k) (column_pairs top width j))
+
+pub columns_more : (top width : ℕ → ℕ) (j : ℕ) → columns top width 0 (j + 1) ≡ columns top width 0 j ++ column_pairs top width j
+columns_more top width j = rw add-one (columns_next top width 0 j j (omega arith))
+
+-- the values for the pairs of a column
+pub map_column : (top width : ℕ → ℕ) (g : ℕ × ℕ → ℤ) (j : ℕ) → map g (column_pairs top width j) ≡ tabulate (width j) (λ t. g (top j + t, j))
+map_column top width g j =
+    let f : ℕ → ℤ = λ i. g (i, j) in
+    let all = map f (range_with_len (top j) (width j)) in
+    map-map g (λ (i : ℕ). (i, j)) (range_with_len (top j) (width j)) ∙ (tabulated_whole (λ t. f (top j + t)) all (λ i below. get_or-map-range_with_len f (top j) (width j) i (top j + i) (pos 0) (omega (arith, length-map-range_with_len f (top j) (width j))) (omega arith)) ∙ ap (λ (n : ℕ). tabulate n (λ t. f (top j + t))) (length-map-range_with_len f (top j) (width j)))
+
+-- one column more of a triangle that is written column by column
+pub triangle_more : (top width : ℕ → ℕ) (g : ℕ × ℕ → ℤ) (j start end k : ℕ) (xs ys : List ℤ) → start ≡ before width j → end ≡ start + width j → end ≤ length xs → k ≡ width j → ys ≡ tabulate (width j) (λ t. g (top j + t, j)) → take start xs ≡ map g (columns top width 0 j) → take end (put_mid start k xs ys) ≡ map g (columns top width 0 (j + 1))
+triangle_more top width g j start end k xs ys begins ends within long column so_far =
+    let size = ap length column ∙ length_tabulate (width j) (λ t. g (top j + t, j)) in
+    let pairs = columns_more top width j in
+    take-put_mid start k xs ys end (omega arith) (omega arith) ∙ (ap2 ◌++◌ so_far (column ∙ sym (map_column top width g j)) ∙ (sym (map-append g (columns top width 0 j) (column_pairs top width j)) ∙ ap (map g) (sym pairs)))
+
+pub lower_end : (n j k start : ℕ) → j < n → 2 * k ≡ n * (n + 1) → start ≡ before (λ c. n - c) j → start + (n - j) ≤ k
+lower_end n j k start within whole is = omega (arith, lower_fits n j k within whole)

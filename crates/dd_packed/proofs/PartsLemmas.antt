@@ -1,6 +1,7 @@
 -- A list after a write to all but its first elements.
 use Rattle.std.proofs.Common.{◌≡◌, ℕ, zero, suc, ◌+◌, ◌-◌, ◌<◌, ◌≤◌, ℤ, pos, List, [], ◌∷◌, ◌++◌, length, take, drop, set, append_assoc, refl, ap, sym, ◌∙◌, arith}
-use Rattle.std.proofs.lemmas.List.{drop_all, length-drop, append-nil, get_or-append_right, length_push}
+use Rattle.std.proofs.lemmas.List.{drop_all, length-drop, append-nil, get_or-append_right, drop-drop, length_push}
+use Rattle.std.proofs.lemmas.Slice.{drop-put_mid}
 use Rattle.std.proofs.Math.Seq.{take-append_seam}
 use borrow.Rule.Slice.PartMut.{put_mid}
 use Rattle.dd_kernels.specs.Lists.{element}
@@ -40,3 +41,11 @@ pub at_seam : (front ys : List ℤ) (k : ℤ) (c : ℕ) → length front ≡ c �
 at_seam front ys k c long =
     let first : c - c ≡ zero = omega arith in
     get_or-append_right front (k ∷ ys) c c (pos 0) long (omega arith) ∙ ap (element (k ∷ ys)) first
+
+-- what is past a part stays when the part is written
+pub past_part : (start end k : ℕ) (xs ys old : List ℤ) → start ≤ end → end ≤ length xs → k ≡ end - start → length ys ≡ k → drop start xs ≡ drop start old → drop end (put_mid start k xs ys) ≡ drop end old
+past_part start end k xs ys old order within width long same =
+    let at : start + (end - start) ≡ end = omega arith in
+    let left = drop-drop (end - start) start xs ∙ ap (λ (n : ℕ). drop n xs) at in
+    let right = drop-drop (end - start) start old ∙ ap (λ (n : ℕ). drop n old) at in
+    drop-put_mid start k xs ys end (omega arith) (omega arith) long ∙ (sym left ∙ (ap (λ (l : List ℤ). drop (end - start) l) same ∙ right))
