@@ -8,7 +8,7 @@ too_large : (n more twice root : ℕ) → n ≡ root + 2 + more → twice + n �
 too_large n more twice root is square high = omega (arith, rw is at square)
 
 -- where n (n - 1) is `twice`, n is one more than the root of `twice`, rounded down
-order_from_root : (n twice root : ℕ) → 0 < n → twice + n ≡ n * n → root * root ≤ twice → twice < (root + 1) * (root + 1) → n ≡ root + 1
+pub order_from_root : (n twice root : ℕ) → 0 < n → twice + n ≡ n * n → root * root ≤ twice → twice < (root + 1) * (root + 1) → n ≡ root + 1
 order_from_root n twice root positive square low high =
     elim (cases_order n (root + 1)) [
       | inl same ↦ same

@@ -171,3 +171,17 @@ triangle_more top width g j start end k xs ys begins ends within long column so_
 
 pub lower_end : (n j k start : ℕ) → j < n → 2 * k ≡ n * (n + 1) → start ≡ before (λ c. n - c) j → start + (n - j) ≤ k
 lower_end n j k start within whole is = omega (arith, lower_fits n j k within whole)
+
+-- the place of row j in column i, and where the step to the next column leads
+pub row_place : (n j i k place : ℕ) → i < j → j < n → 2 * k + n ≡ n * n → place + i + 1 ≡ before (λ c. n - (c + 1)) i + j → place < k
+row_place n j i k place above below whole is = omega (arith, strict_fits n i k (omega arith) whole)
+
+pub row_step : (n j i place step : ℕ) → i < j → j < n → step + i + 1 ≡ n → place + i + 1 ≡ before (λ c. n - (c + 1)) i + j → place + (step - 1) + (i + 1) + 1 ≡ before (λ c. n - (c + 1)) (i + 1) + j
+row_step n j i place step above below long is = omega (arith, before_more (λ c. n - (c + 1)) i)
+
+pub row_end : (n j i k place step : ℕ) → i < j → j < n → 2 * k + n ≡ n * n → step + i + 1 ≡ n → place + i + 1 ≡ before (λ c. n - (c + 1)) i + j → place + (step - 1) ≤ k
+row_end n j i k place step above below whole long is =
+    omega (arith, row_step n j i place step above below long is, strict_fits n (i + 1) k (omega arith) whole)
+
+pub upper_end : (n j k start : ℕ) → j < n → 2 * k + n ≡ n * n → start ≡ before (λ c. c) j → start + j ≤ k
+upper_end n j k start within whole is = omega (arith, before_le (λ c. c) (suc j) n within, upper_before n)

@@ -1,4 +1,5 @@
 pub mod ColumnsLemmas
+pub mod OrderLemmas
 pub mod PartsLemmas
 pub mod ProductLemmas
 pub mod SolutionLemmas

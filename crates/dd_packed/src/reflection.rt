@@ -9,12 +9,21 @@ pub fn mirror(p: &[i64], q: &mut [i64])
     requires same { length q.old ≡ length p.now }
     ensures { q.new ≡ mirrored p.now }
 {
-    let order = (2 * p.len()).isqrt() + 1;
+    let order = order_of(p);
     let mut start = 0;
     for j in 1..order {
         read_row(&mut q[start..start + j], p, order);
         start += j;
     }
+}
+
+/// The order of a strict triangle: the n with so many as n (n - 1) / 2 elements.
+fn order_of(p: &[i64]) -> usize
+    requires { (n : ℕ) × (0 < n) × (2 * length p.now + n ≡ n * n) }
+    ensures some { 0 < result }
+    ensures square { 2 * length p.now + result ≡ result * result }
+{
+    (2 * p.len()).isqrt() + 1
 }
 
 /// Writes a row of the triangle `p` of this order into `column`: the row that has so many elements.
