@@ -1,7 +1,7 @@
 -- Packed triangles by their columns.
-use Rattle.std.proofs.Common.{◌≡◌, ◌≢◌, ℕ, zero, suc, ◌+◌, ◌-◌, ◌*◌, ◌<◌, ◌≤◌, ◌==◌, ◌&&◌, nat_eq, cond, ℤ, pos, List, [], ◌∷◌, ◌++◌, map, length, take, drop, append_assoc, inl, inr, add-one, refl, ap, sym, ◌∙◌, arith}
+use Rattle.std.proofs.Common.{◌≡◌, ◌≢◌, ℕ, zero, suc, ◌+◌, ◌-◌, ◌*◌, ◌<◌, ◌≤◌, ℤ, pos, List, [], ◌∷◌, ◌++◌, map, length, take, drop, append_assoc, inl, inr, add-one, refl, ap, sym, ◌∙◌, arith}
 use Rattle.std.specs.List.{flat_map, range_with_len}
-use Rattle.std.proofs.lemmas.Bool.{cases_lt, cases_order}
+use Rattle.std.proofs.lemmas.Bool.{cases_lt}
 use Rattle.std.proofs.lemmas.Bool.Decides.{nat_tests}
 use Rattle.std.proofs.lemmas.List.{get_or-drop, get_or-take, drop-drop, take_all, append-nil, map-append, length-take}
 use Rattle.std.proofs.lemmas.Simd.{map-map}
@@ -9,7 +9,7 @@ use Rattle.std.proofs.lemmas.List.FromFn.{length-map-range_with_len, get_or-map-
 use Rattle.std.proofs.lemmas.Slice.{take-put_mid}
 use borrow.Rule.Slice.PartMut.{put_mid}
 use Rattle.dd_kernels.specs.Lists.{element, tabulate}
-use Rattle.dd_kernels.specs.Packed.{packed, lower_pairs, strictly_lower_pairs, strictly_upper_pairs}
+use Rattle.dd_kernels.specs.Packed.{packed, lower_pairs, strictly_lower_pairs}
 use Rattle.dd_kernels.proofs.ListsLemmas.{ap2, tabulated_whole}
 use Rattle.dd_kernels.proofs.MatricesLemmas.{length_tabulate}
 
@@ -71,9 +71,9 @@ place_of top width c (suc k) i j xs low high above within =
     elim (cases_lt c j) [
       | inl past ↦ let other : c ≢ j = omega arith in past_column (top c) (width c) c i j (columns top width (c + 1) k) (drop (before width c) xs) other ∙ (ap (λ (l : List ℤ). packed (columns top width (c + 1) k) l i j) (drop-drop (width c) (before width c) xs ∙ rw add-one) ∙ place_of top width (c + 1) k i j xs (omega arith) (omega arith) above within)
       | inr here ↦ let same : j ≡ c = omega arith in
-        let above_c = rw same at above in
-        let within_c = rw same at within in
-        rw same (in_column (top c) (width c) c i (columns top width (c + 1) k) (drop (before width c) xs) above_c within_c ∙ get_or-drop (before width c) xs (i - top c) (pos 0))
+          let above_c = rw same at above in
+          let within_c = rw same at within in
+          rw same (in_column (top c) (width c) c i (columns top width (c + 1) k) (drop (before width c) xs) above_c within_c ∙ get_or-drop (before width c) xs (i - top c) (pos 0))
     ]
 
 -- all pairs of the triangles, from their first column on

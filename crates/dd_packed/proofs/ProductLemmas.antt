@@ -1,13 +1,13 @@
 -- One column more of a product of a triangle and a column, from the last column on.
-use Rattle.std.proofs.Common.{◌≡◌, ℕ, zero, suc, ◌+◌, ◌-◌, ◌<◌, ◌≤◌, ℤ, pos, ◌+ℤ◌, ◌*ℤ◌, List, [], ◌∷◌, ◌++◌, length, take, drop, inl, inr, add-one, refl, ap, sym, ◌∙◌, arith}
+use Rattle.std.proofs.Common.{◌≡◌, ℕ, zero, suc, ◌+◌, ◌-◌, ◌<◌, ◌≤◌, ℤ, pos, ◌+ℤ◌, ◌*ℤ◌, List, ◌∷◌, ◌++◌, length, take, drop, inl, inr, refl, ap, sym, ◌∙◌, arith}
 use Rattle.std.specs.Int.{w64}
 use Rattle.std.proofs.lemmas.Bool.{cases_lt}
 use Rattle.std.proofs.lemmas.Int.{int_wrap-add_left, ints}
-use Rattle.std.proofs.lemmas.List.{get_or-append_right, get_or-drop, get_or-take, take-take, length-append, length-take, length-drop}
+use Rattle.std.proofs.lemmas.List.{get_or-drop, get_or-take, take-take, length-append, length-take, length-drop}
 use Rattle.std.proofs.Math.IntN.{+ℤ_comm, +ℤ_idr, *ℤ_comm}
 use Rattle.dd_kernels.specs.Lists.{wrapped, element, zip_with, tabulate, sum_below}
 use Rattle.dd_kernels.proofs.ListsLemmas.{ap2, tabulated_whole}
-use Rattle.dd_kernels.proofs.MatricesLemmas.{element_zip_with, length_zip_with, sum_below_same, tabulate_same}
+use Rattle.dd_kernels.proofs.MatricesLemmas.{element_zip_with, length_zip_with, sum_below_same}
 use Rattle.dd_packed.proofs.PartsLemmas.{past, at_seam, before_rest}
 
 -- the first term of a sum by itself
@@ -69,19 +69,19 @@ product_more l x b xs part column new all within long each part_is new_is all_is
     record {
       front = ap (λ (l : List ℤ). take b l) all_is ∙ (before_rest (take b xs) new b front ∙ same);
       rest = λ i low below.
-        let f : ℕ → ℤ = λ j. l i j *ℤ element x j in
-        elim (cases_lt b i) [
-          | inl past_b ↦
-            let t : ℕ = i - (b + 1) in
-            let small : 1 + t < length column = omega (arith, ap length whole, length-append (take b xs) (v ∷ ys), length-drop 1 column) in
-            let here : element (drop 1 part) t ≡ element xs i = get_or-drop 1 part t (pos 0) ∙ (ap (λ (l : List ℤ). element l (1 + t)) part_is ∙ (get_or-drop b xs (1 + t) (pos 0) ∙ ap (element xs) (omega arith))) in
-            let term : element (drop 1 column) t ≡ l i b = get_or-drop 1 column t (pos 0) ∙ (each (1 + t) small ∙ ap (λ (r : ℕ). l r b) (omega arith)) in
-            let there = ap (λ (l : List ℤ). element l i) whole ∙ (past (take b xs) ys v b i front (omega arith) ∙ (element_zip_with op (drop 1 part) (drop 1 column) t (omega (arith, length-drop 1 column)) others ∙ ap2 op here term)) in
-            there ∙ row_more f b i k (l i b) (element xs i) past_b (so_far.rest i (omega arith) (omega (arith, long_part))) (ap (λ (z : ℤ). l i b *ℤ z) factor)
-          | inr none ↦
-            let at : i ≡ b = omega arith in
-            rw at (ap (λ (l : List ℤ). element l b) whole ∙ (at_seam (take b xs) ys v b front ∙ row_first (λ j. l b j *ℤ element x j) b k (element column 0) (ap2 ◌*ℤ◌ diagonal factor)))
-        ]
+          let f : ℕ → ℤ = λ j. l i j *ℤ element x j in
+          elim (cases_lt b i) [
+            | inl past_b ↦
+                let t : ℕ = i - (b + 1) in
+                let small : 1 + t < length column = omega (arith, ap length whole, length-append (take b xs) (v ∷ ys), length-drop 1 column) in
+                let here : element (drop 1 part) t ≡ element xs i = get_or-drop 1 part t (pos 0) ∙ (ap (λ (l : List ℤ). element l (1 + t)) part_is ∙ (get_or-drop b xs (1 + t) (pos 0) ∙ ap (element xs) (omega arith))) in
+                let term : element (drop 1 column) t ≡ l i b = get_or-drop 1 column t (pos 0) ∙ (each (1 + t) small ∙ ap (λ (r : ℕ). l r b) (omega arith)) in
+                let there = ap (λ (l : List ℤ). element l i) whole ∙ (past (take b xs) ys v b i front (omega arith) ∙ (element_zip_with op (drop 1 part) (drop 1 column) t (omega (arith, length-drop 1 column)) others ∙ ap2 op here term)) in
+                there ∙ row_more f b i k (l i b) (element xs i) past_b (so_far.rest i (omega arith) (omega (arith, long_part))) (ap (λ (z : ℤ). l i b *ℤ z) factor)
+            | inr none ↦
+                let at : i ≡ b = omega arith in
+                rw at (ap (λ (l : List ℤ). element l b) whole ∙ (at_seam (take b xs) ys v b front ∙ row_first (λ j. l b j *ℤ element x j) b k (element column 0) (ap2 ◌*ℤ◌ diagonal factor)))
+          ];
     }
 
 -- all columns are taken

@@ -3,8 +3,8 @@ use Rattle.std.proofs.Common.{◌≡◌, ℕ, zero, suc, ◌+◌, ◌-◌, ◌<�
 use Rattle.std.specs.Int.{w64}
 use Rattle.std.specs.Int.RustNames.{FitsSigned}
 use Rattle.std.proofs.lemmas.Int.{int_wrap_fits, int_wrap-add_same, SFits-int_wrap, ints}
-use Rattle.std.proofs.lemmas.List.{get_or_append_left, get_or-append_right, get_or_push, get_or-drop, take_more, length_push, length-append, length-take, length-drop}
-use Rattle.std.proofs.Math.IntN.{+ℤ_assoc, *ℤ_comm}
+use Rattle.std.proofs.lemmas.List.{get_or_append_left, get_or_push, get_or-drop, take_more, length_push, length-append, length-take, length-drop}
+use Rattle.std.proofs.Math.IntN.{*ℤ_comm}
 use Rattle.dd_kernels.specs.Lists.{wrapped, element, zip_with, tabulate, sum_below}
 use Rattle.dd_kernels.specs.Packed.{packed, strictly_lower_pairs, solved, solution}
 use Rattle.dd_kernels.proofs.ListsLemmas.{ap2, tabulated_whole}
@@ -61,11 +61,11 @@ solved_more p x c xs column within fits long each so_far =
     record {
       front = up_to (take c xs) ys k c front ∙ (sym next ∙ rw add-one);
       rest = λ i beyond below.
-        let t : ℕ = i - (c + 1) in
-        let place : c + 1 + t ≡ i = omega arith in
-        let small : t < length column = omega (arith, length-append (take c xs) (k ∷ ys)) in
-        let there = past (take c xs) ys k c i front beyond ∙ (element_zip_with op (drop (c + 1) xs) column t (omega arith) others ∙ ap2 (λ (a b : ℤ). op a b) (get_or-drop (c + 1) xs t (pos 0) ∙ ap (element xs) place) (each t small ∙ ap (λ (r : ℕ). p r c) place)) in
-        ap wrapped there ∙ rw add-one (row_more p x c i k (element xs i) next_of (so_far.rest i (omega arith) (omega arith)))
+          let t : ℕ = i - (c + 1) in
+          let place : c + 1 + t ≡ i = omega arith in
+          let small : t < length column = omega (arith, length-append (take c xs) (k ∷ ys)) in
+          let there = past (take c xs) ys k c i front beyond ∙ (element_zip_with op (drop (c + 1) xs) column t (omega arith) others ∙ ap2 (λ (a b : ℤ). op a b) (get_or-drop (c + 1) xs t (pos 0) ∙ ap (element xs) place) (each t small ∙ ap (λ (r : ℕ). p r c) place)) in
+          ap wrapped there ∙ rw add-one (row_more p x c i k (element xs i) next_of (so_far.rest i (omega arith) (omega arith)));
     }
 
 -- the same where a column of the triangle has gone over the elements below its diagonal

@@ -8,6 +8,7 @@ ghost use Rattle.dd_kernels.specs.Shapes.{size_of};
 use dd_kernels::{Shape, addk, axpy};
 
 /// Adds the lower triangle of `a`, of this shape, times itself transposed to the packed triangle `l`.
+#[tactic(auto, using(crate::proofs::ColumnsLemmas::lower_end))]
 pub fn syrk_packed(l: &mut [i64], a: &[i64], shape: Shape)
     requires triangle { 2 * length l.old ≡ shape.rows * (shape.rows + 1) }
     requires matrix { length a.now ≡ size_of shape }

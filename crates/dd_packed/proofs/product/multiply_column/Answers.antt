@@ -1,4 +1,4 @@
-use Rattle.std.proofs.Common.{◌≡◌, ◌+ℤ◌, ◌*ℤ◌, ◌∷◌, List, ℤ, ℕ, length, drop, set, ◌-◌, ap, ◌∙◌, rules, arith}
+use Rattle.std.proofs.Common.{◌≡◌, ◌+ℤ◌, ◌*ℤ◌, ◌∷◌, List, ℤ, length, drop, set, ◌-◌, ap, ◌∙◌, rules, arith}
 use Rattle.std.specs.Int.{w64, cast_signed, cast_unsigned, int_wrapping_mul}
 use Rattle.std.specs.Int.RustNames.{FitsSigned}
 use Rattle.std.specs.List.{between}

@@ -1,4 +1,4 @@
-use Rattle.std.proofs.Common.{◌≡◌, ◌≤◌, ℕ, ℤ, List, ◌+◌, ◌-◌, length, drop, take, ap, sym, ◌∙◌, rules, arith}
+use Rattle.std.proofs.Common.{◌≡◌, ℕ, ℤ, List, ◌+◌, ◌-◌, length, drop, take, ap, sym, ◌∙◌, arith}
 use Rattle.std.specs.List.{between}
 use Rattle.std.proofs.lemmas.List.{length-drop, length-take, take-take}
 use Rattle.std.proofs.lemmas.Slice.{between_to_end}
@@ -6,13 +6,13 @@ use Rattle.dd_kernels.specs.Packed.{packed, lower_pairs}
 use Rattle.dd_kernels.proofs.ListsLemmas.{ap2}
 use Rattle.dd_packed.proofs.ColumnsLemmas.{before, before_le, lower_all, lower_left, lower_column}
 use Rattle.dd_packed.proofs.PartsLemmas.{put_rest}
-use Rattle.dd_packed.proofs.ProductLemmas.{ProductFrom, nothing_taken, product_more, product_whole}
+use Rattle.dd_packed.proofs.ProductLemmas.{nothing_taken, product_more, product_whole}
 use Rattle.dd_packed.proofs.product.trmv.Goals as goal
 
 pub loop-below-init : goal.loop-below-init
 loop-below-init c = record {
   columns = lower_all (length c.args.x.now) c.args.l.now c.requires;
-  product = nothing_taken (packed (lower_pairs (length c.args.x.now)) c.args.l.now) c.args.x.now _ (omega arith)
+  product = nothing_taken (packed (lower_pairs (length c.args.x.now)) c.args.l.now) c.args.x.now _ (omega arith);
 }
 
 pub overflow_sub-columns : goal.overflow_sub-columns
@@ -49,7 +49,7 @@ loop-below-preserved c =
     let long : length c.split_at.result.1.now + b ≡ length xs = omega (arith, left) in
     record {
       columns = others ∙ ap (λ (k : ℕ). take (before (λ c. n - c) k) l) (sym here);
-      product = rw here (product_more (packed (lower_pairs n) l) x b xs (between b (length xs) xs) c.split_at.result.1.now c.multiply_column.new.x _ (omega arith) long (λ t below. lower_column n b t l c.split_at.result.1.now column (omega arith) (omega arith)) (between_to_end xs b (length xs) (omega arith)) c.multiply_column.ensures (put_rest b (length xs - b) xs c.multiply_column.new.x (omega arith)) (rw next at c.loop-below.invariant.product))
+      product = rw here (product_more (packed (lower_pairs n) l) x b xs (between b (length xs) xs) c.split_at.result.1.now c.multiply_column.new.x _ (omega arith) long (λ t below. lower_column n b t l c.split_at.result.1.now column (omega arith) (omega arith)) (between_to_end xs b (length xs) (omega arith)) c.multiply_column.ensures (put_rest b (length xs - b) xs c.multiply_column.new.x (omega arith)) (rw next at c.loop-below.invariant.product));
     }
 
 pub returns : goal.returns

@@ -8,5 +8,5 @@ use Rattle.dd_packed.proofs.product.trmv.Given as goal
 abbrev pub invariant-loop-below : goal.invariant-loop-below
 invariant-loop-below l = record {
   columns : l.columns ≡ take (before (λ c. length l.fn.x - c) (length l.fn.x - l.below)) l.l;
-  product : ProductFrom (packed (lower_pairs (length l.fn.x)) l.l) l.fn.x (length l.fn.x - l.below) l.x
+  product : ProductFrom (packed (lower_pairs (length l.fn.x)) l.l) l.fn.x (length l.fn.x - l.below) l.x;
 }

@@ -1,4 +1,4 @@
-use Rattle.std.proofs.Common.{◌≡◌, ◌+◌, ◌-◌, ◌≤◌, ℕ, ℤ, List, map, length, take, ap, sym, ◌∙◌, refl, rules, arith}
+use Rattle.std.proofs.Common.{◌≡◌, ◌+◌, ◌-◌, ◌≤◌, ℕ, ℤ, map, length, ap, sym, ◌∙◌, refl, rules, arith}
 use Rattle.std.specs.List.{between}
 use Rattle.std.proofs.lemmas.List.{take_all}
 use Rattle.std.proofs.lemmas.List.Edits.{length-between}
@@ -11,11 +11,6 @@ use Rattle.dd_packed.proofs.reflection.mirror.Goals as goal
 
 pub overflow_add-start : goal.overflow_add-start
 overflow_add-start c =
-    let within : c.loop-j.start + c.loop-j.j ≤ length c.loop-j.q = omega (arith, upper_end c.order_of-order.result c.loop-j.j (length c.args.p.now) c.loop-j.start c.loop-j-test.true c.order_of-order.ensures.square c.loop-j.invariant.place) in
-    search rules
-
-pub offset_bounds-q-start : goal.offset_bounds-q-start
-offset_bounds-q-start c =
     let within : c.loop-j.start + c.loop-j.j ≤ length c.loop-j.q = omega (arith, upper_end c.order_of-order.result c.loop-j.j (length c.args.p.now) c.loop-j.start c.loop-j-test.true c.order_of-order.ensures.square c.loop-j.invariant.place) in
     search rules
 
@@ -35,10 +30,11 @@ loop-j-preserved c =
     let long : length (between start (start + j) xs) ≡ j = omega (arith, length-between xs start (start + j) within) in
     let g : ℕ × ℕ → ℤ = λ at. packed (strictly_lower_pairs n) p at.1 at.0 in
     let column : c.read_row.new.column ≡ tabulate j (λ t. g (0 + t, j)) =
-      c.read_row.ensures ∙ (ap (λ (m : ℕ). tabulate m (packed (strictly_lower_pairs n) p m)) long ∙ tabulate_same j (packed (strictly_lower_pairs n) p j) (λ t. g (0 + t, j)) (λ t below. let at : t ≡ 0 + t = omega arith in ap (packed (strictly_lower_pairs n) p j) at)) in
+    c.read_row.ensures ∙ (ap (λ (m : ℕ). tabulate m (packed (strictly_lower_pairs n) p m)) long ∙ tabulate_same j (packed (strictly_lower_pairs n) p j) (λ t. g (0 + t, j)) (λ t below. let at : t ≡ 0 + t = omega arith in ap (packed (strictly_lower_pairs n) p j) at)) in
     record {
+      within = omega arith;
       place = sym (before_more (λ c. c) j ∙ ap (λ (b : ℕ). b + j) (sym c.loop-j.invariant.place));
-      front = triangle_more (λ c. 0) (λ c. c) g j start (start + j) (start + j - start) xs c.read_row.new.column c.loop-j.invariant.place refl within (omega arith) column c.loop-j.invariant.front
+      front = triangle_more (λ c. 0) (λ c. c) g j start (start + j) (start + j - start) xs c.read_row.new.column c.loop-j.invariant.place refl within (omega arith) column c.loop-j.invariant.front;
     }
 
 pub returns : goal.returns

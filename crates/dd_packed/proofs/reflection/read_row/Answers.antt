@@ -1,4 +1,4 @@
-use Rattle.std.proofs.Common.{◌≡◌, ◌+◌, ◌-◌, ◌<◌, ◌≤◌, ℕ, length, ap, sym, ◌∙◌, rules, arith}
+use Rattle.std.proofs.Common.{◌+◌, ◌-◌, ◌<◌, ◌≤◌, ℕ, length, ap, sym, ◌∙◌, rules, arith}
 use Rattle.std.specs.Int.{w64}
 use Rattle.std.proofs.lemmas.Int.{to_z-of_z}
 use Rattle.dd_kernels.specs.Lists.{element}
@@ -33,5 +33,5 @@ loop-a-preserved c =
     record {
       place = row_step n j i place c.loop-a.step above c.requires.below c.loop-a.invariant.step c.loop-a.invariant.place;
       step = omega (arith, c.loop-a.invariant.step);
-      front = tabulate_more (packed (strictly_lower_pairs n) p j) c.loop-a.column i _ (omega arith) value c.loop-a.invariant.front
+      front = tabulate_more (packed (strictly_lower_pairs n) p j) c.loop-a.column i _ (omega arith) value c.loop-a.invariant.front;
     }

@@ -10,5 +10,5 @@ abbrev pub invariant-loop-a : goal.invariant-loop-a
 invariant-loop-a l = record {
   place : l.place + l.a-index + 1 ≡ before (λ c. l.order - (c + 1)) l.a-index + length l.fn.column;
   step : l.step + l.a-index + 1 ≡ l.order;
-  front : take l.a-index l.column ≡ tabulate l.a-index (packed (strictly_lower_pairs l.order) l.p (length l.fn.column))
+  front : take l.a-index l.column ≡ tabulate l.a-index (packed (strictly_lower_pairs l.order) l.p (length l.fn.column));
 }

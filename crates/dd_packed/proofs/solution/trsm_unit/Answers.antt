@@ -22,5 +22,5 @@ loop-j-preserved c =
     let column = solution_column p (between (j * m) (j * m + m) c.loop-j.x) c.trsv_unit.new.x (λ r. entry s old r j) m long (λ i below. element_part_ahead c.loop-j.x old (j * m) (j * m + m) i c.loop-j.invariant.rest (omega arith)) c.trsv_unit.ensures in
     record {
       front = column_more f m j _ c.loop-j.x _ within (omega arith) column c.loop-j.invariant.front;
-      rest = past_column (λ i. f i j) m j _ c.loop-j.x _ old within (omega arith) column c.loop-j.invariant.rest
+      rest = past_column (λ i. f i j) m j _ c.loop-j.x _ old within (omega arith) column c.loop-j.invariant.rest;
     }

@@ -8,5 +8,5 @@ use Rattle.dd_packed.proofs.solution.trsm_unit.Given as goal
 abbrev pub invariant-loop-j : goal.invariant-loop-j
 invariant-loop-j l = record {
   front : take (l.j * l.rows) l.x ≡ matrix l.rows l.j (λ i j. element (solved (packed (strictly_lower_pairs l.rows) l.p) (λ r. entry l.fn.shape l.fn.x r j) l.rows) i);
-  rest : drop (l.j * l.rows) l.x ≡ drop (l.j * l.rows) l.fn.x
+  rest : drop (l.j * l.rows) l.x ≡ drop (l.j * l.rows) l.fn.x;
 }

@@ -1,4 +1,4 @@
-use Rattle.std.proofs.Common.{◌≡◌, ◌≤◌, ℕ, ℤ, ◌-ℤ◌, ◌*ℤ◌, List, ◌+◌, ◌-◌, length, drop, take, ap, sym, ◌∙◌, rules, arith}
+use Rattle.std.proofs.Common.{◌≡◌, ℕ, ℤ, ◌-ℤ◌, ◌*ℤ◌, List, ◌+◌, ◌-◌, length, drop, take, ap, sym, ◌∙◌, rules, arith}
 use Rattle.std.specs.Int.{w64, cast_signed, cast_unsigned}
 use Rattle.std.specs.Int.RustNames.{FitsSigned}
 use Rattle.std.specs.List.{between}
@@ -36,5 +36,5 @@ loop-j-preserved c =
     let new : c.subtract.new.x ≡ zip_with (λ a b. wrapped (a -ℤ k *ℤ b)) (drop (j + 1) xs) c.split_at.result.0.now = c.subtract.ensures ∙ ap (λ (l : List ℤ). zip_with (λ a b. wrapped (a -ℤ k *ℤ b)) l c.split_at.result.0.now) rest in
     record {
       columns = others ∙ ap (λ (k : ℕ). drop k p) (sym (before_more (λ c. n - (c + 1)) j));
-      solved = column_solved (packed (strictly_lower_pairs n) p) (element c.args.x.now) j xs c.split_at.result.0.now c.subtract.new.x _ k (omega arith) fits (omega arith) (λ t below. strict_column n j t p c.split_at.result.0.now column c.loop-j-test.true (omega arith)) (to_z-of_z w64 (element xs j) fits) new (put_rest (j + 1) (length xs - (j + 1)) xs c.subtract.new.x (omega arith)) c.loop-j.invariant.solved
+      solved = column_solved (packed (strictly_lower_pairs n) p) (element c.args.x.now) j xs c.split_at.result.0.now c.subtract.new.x _ k (omega arith) fits (omega arith) (λ t below. strict_column n j t p c.split_at.result.0.now column c.loop-j-test.true (omega arith)) (to_z-of_z w64 (element xs j) fits) new (put_rest (j + 1) (length xs - (j + 1)) xs c.subtract.new.x (omega arith)) c.loop-j.invariant.solved;
     }

@@ -9,5 +9,5 @@ use Rattle.dd_packed.proofs.solution.trsv_unit.Given as goal
 abbrev pub invariant-loop-j : goal.invariant-loop-j
 invariant-loop-j l = record {
   columns : l.columns ≡ drop (before (λ c. length l.fn.x - (c + 1)) l.j) l.p;
-  solved : SolvedUpTo (packed (strictly_lower_pairs (length l.fn.x)) l.p) (element l.fn.x) l.j l.x
+  solved : SolvedUpTo (packed (strictly_lower_pairs (length l.fn.x)) l.p) (element l.fn.x) l.j l.x;
 }

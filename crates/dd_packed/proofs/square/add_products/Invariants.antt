@@ -7,5 +7,5 @@ use Rattle.dd_packed.proofs.square.add_products.Given as goal
 abbrev pub invariant-loop-q : goal.invariant-loop-q
 invariant-loop-q l = record {
   later : 0 < l.q → l.column ≡ tabulate (length l.fn.column) (λ t. wrapped (element l.fn.column t +ℤ sum_below l.q (λ q. entry l.fn.shape l.a (l.j + t) q *ℤ entry l.fn.shape l.a l.j q)));
-  first : l.q ≡ 0 → l.column ≡ l.fn.column
+  first : l.q ≡ 0 → l.column ≡ l.fn.column;
 }

@@ -1,4 +1,4 @@
-use Rattle.std.proofs.Common.{◌≡◌, ◌+◌, ◌-◌, ◌<◌, ◌≤◌, refl, ℕ, ℤ, ◌+ℤ◌, ◌*ℤ◌, List, map, length, take, drop, ap, sym, ◌∙◌, rules, arith}
+use Rattle.std.proofs.Common.{◌≡◌, ◌+◌, ◌-◌, ◌<◌, ◌≤◌, refl, ℕ, ℤ, ◌+ℤ◌, ◌*ℤ◌, length, ap, sym, ◌∙◌, rules, arith}
 use Rattle.std.specs.List.{between}
 use Rattle.std.proofs.lemmas.List.{take_all}
 use Rattle.std.proofs.lemmas.List.Edits.{length-between}
@@ -9,21 +9,6 @@ use Rattle.dd_kernels.proofs.MatricesLemmas.{element_part_ahead, tabulate_same}
 use Rattle.dd_packed.proofs.ColumnsLemmas.{before_more, lower_end, lower_whole, lower_place, triangle_more}
 use Rattle.dd_packed.proofs.PartsLemmas.{past_part}
 use Rattle.dd_packed.proofs.square.syrk_packed.Goals as goal
-
-pub overflow_add-end : goal.overflow_add-end
-overflow_add-end c =
-    let within : c.loop-j.start + (c.args.shape.rows - c.loop-j.j) ≤ length c.loop-j.l = omega (arith, lower_end c.args.shape.rows c.loop-j.j (length c.args.l.now) c.loop-j.start c.loop-j-test.true c.requires.triangle c.loop-j.invariant.place) in
-    search rules
-
-pub offset_bounds-l-start : goal.offset_bounds-l-start
-offset_bounds-l-start c =
-    let within : c.loop-j.start + (c.args.shape.rows - c.loop-j.j) ≤ length c.loop-j.l = omega (arith, lower_end c.args.shape.rows c.loop-j.j (length c.args.l.now) c.loop-j.start c.loop-j-test.true c.requires.triangle c.loop-j.invariant.place) in
-    search rules
-
-pub slice_bounds-add_products-end : goal.slice_bounds-add_products-end
-slice_bounds-add_products-end c =
-    let within : c.loop-j.start + (c.args.shape.rows - c.loop-j.j) ≤ length c.loop-j.l = omega (arith, lower_end c.args.shape.rows c.loop-j.j (length c.args.l.now) c.loop-j.start c.loop-j-test.true c.requires.triangle c.loop-j.invariant.place) in
-    search rules
 
 pub loop-j-preserved : goal.loop-j-preserved
 loop-j-preserved c =
@@ -43,9 +28,10 @@ loop-j-preserved c =
     let here : (t : ℕ) → t < n - j → element part t ≡ packed (lower_pairs n) old (j + t) j = λ t below. element_part_ahead xs old start end t c.loop-j.invariant.rest (omega arith) ∙ (ap (element old) (omega (arith, c.loop-j.invariant.place)) ∙ sym (lower_place n (j + t) j old (omega arith) (omega arith))) in
     let column : c.add_products.new.column ≡ tabulate (n - j) (λ t. g (j + t, j)) = c.add_products.ensures ∙ (ap (λ (m : ℕ). tabulate m (λ t. wrapped (element part t +ℤ term t))) long ∙ tabulate_same (n - j) (λ t. wrapped (element part t +ℤ term t)) (λ t. g (j + t, j)) (λ t below. ap (λ (e : ℤ). wrapped (e +ℤ term t)) (here t below))) in
     record {
+      within = omega arith;
       place = sym (before_more (λ c. n - c) j ∙ ap (λ (b : ℕ). b + (n - j)) (sym c.loop-j.invariant.place));
       front = triangle_more (λ c. c) (λ c. n - c) g j start end (end - start) xs c.add_products.new.column c.loop-j.invariant.place refl within (omega arith) column c.loop-j.invariant.front;
-      rest = past_part start end (end - start) xs c.add_products.new.column old (omega arith) within (omega arith) (omega arith) c.loop-j.invariant.rest
+      rest = past_part start end (end - start) xs c.add_products.new.column old (omega arith) within (omega arith) (omega arith) c.loop-j.invariant.rest;
     }
 
 pub returns : goal.returns
