@@ -11,12 +11,12 @@
 //! each kernel makes of its lists is the equation of the kernel table, `dd_kernels/specs/Table.antt`, with the
 //! pairs of row and column of a triangle in `Packed.antt` beside it.
 //!
-//! No call takes memory, and all write where the lists stand. `trmv`, `trsv_unit` and `mirror` touch each
-//! element of the triangle once, `trsm_unit` once for each column of X, `syrk_packed` once for each column of A.
-//! But in `mirror`, the inner loops run over slices of stride one.
+//! [`packed`] takes no memory and writes where the lists stand. `trmv`, `trsv_unit` and `mirror` go over the
+//! triangle once, `trsm_unit` once for each column of X, `syrk_packed` once for each column of A. The inner loops
+//! run over slices of stride one, except in `mirror`, which reads with a step.
 //!
-//! Inside, `run` lends the two buffers as slices and goes by the kernel. `product`, `solution` and `square` cut
-//! the triangle into its columns, one after the other; `reflection` walks along its rows.
+//! Inside, `run` lends the two buffers as slices and goes by the kernel. `product`, `solution` and `square` cut the
+//! triangle into its columns; `reflection` walks along its rows.
 #![tactic(auto)]
 
 mod product;
