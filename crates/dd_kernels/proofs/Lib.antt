@@ -1,3 +1,4 @@
+pub mod BlocksLemmas
 pub mod ListsLemmas
 pub mod MatricesLemmas
 pub mod NamesLemmas

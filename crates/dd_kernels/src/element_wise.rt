@@ -28,7 +28,7 @@ use crate::in_place::{combine, update};
 pub fn fill(x: &mut [i64], k: i64)
     ensures { x.new ≡ replicate (length x.old) k }
 {
-    x.fill(k);
+    update(x, |_| k);
 }
 
 /// Adds `k` to each element.
