@@ -1,12 +1,16 @@
 -- Lists that are changed by blocks of eight.
-use Rattle.std.proofs.Common.{◌≡◌, ℕ, ℤ, pos, ◌+◌, ◌-◌, ◌≤◌, List, [], ◌∷◌, ◌++◌, suc, length, take, drop, map, replicate, append_assoc, refl, ap, sym, ◌∙◌, arith}
+use Rattle.std.proofs.Common.{◌≡◌, ℕ, ℤ, pos, ◌+ℤ◌, zero, ◌+◌, ◌-◌, ◌≤◌, ◌<◌, List, [], ◌∷◌, ◌++◌, suc, length, take, drop, map, replicate, append_assoc, append-nil, refl, ap, sym, ◌∙◌, arith}
 use Rattle.std.specs.List.{between}
-use Rattle.std.proofs.lemmas.List.{take-append-drop, drop-drop, length-map, map-append}
+use Rattle.std.proofs.lemmas.List.{take-append-drop, drop-drop, drop_all, length-map, map-append}
+use Rattle.std.specs.Int.{w64}
+use Rattle.std.proofs.lemmas.Int.{int_wrap-add_left}
+use Rattle.std.proofs.Math.IntN.{+ℤ_assoc, +ℤ_idr}
 use Rattle.std.proofs.lemmas.List.Edits.{length-between}
 use Rattle.std.proofs.lemmas.Slice.{take-put_mid, drop-put_mid}
 use borrow.Rule.Slice.PartMut.{put_mid}
-use Rattle.dd_kernels.specs.Lists.{element, zip_with}
+use Rattle.dd_kernels.specs.Lists.{wrapped, element, zip_with, tabulate, sum_below}
 use Rattle.dd_kernels.proofs.ListsLemmas.{ap2}
+use Rattle.dd_kernels.proofs.MatricesLemmas.{length_tabulate, length_zip_with, sum_below_same, tabulate_same}
 
 -- what is left is a block and what is left after it
 split_block : (xs : List ℤ) (n next : ℕ) → next ≡ n + 8 → drop n xs ≡ between n (n + 8) xs ++ drop next xs
@@ -23,11 +27,6 @@ map_block_more f n next k xs ys all within is width block so_far =
     let split = ap (map f) (split_block xs n next is) ∙ map-append f (between n (n + 8) xs) (drop next xs) in
     let joined = append_assoc (take n xs) ys (map f (drop next xs)) in
     cc
-
-length_zip_with : (f : ℤ → ℤ → ℤ) (xs ys : List ℤ) → length xs ≡ length ys → length (zip_with f xs ys) ≡ length xs
-length_zip_with f [] ys same = refl
-length_zip_with f (x ∷ xs) [] same = absurd (omega arith)
-length_zip_with f (x ∷ xs) (y ∷ ys) same = ap suc (length_zip_with f xs ys (omega arith))
 
 zip_with-append : (f : ℤ → ℤ → ℤ) (us xs vs ys : List ℤ) → length us ≡ length vs → zip_with f (us ++ xs) (vs ++ ys) ≡ zip_with f us vs ++ zip_with f xs ys
 zip_with-append f [] xs [] ys same = refl
@@ -52,3 +51,42 @@ zip_block_more f n next k xs ys new all in_xs in_ys is width block so_far =
 pub map_to_one : (k : ℤ) (xs : List ℤ) → map (λ _. k) xs ≡ replicate (length xs) k
 map_to_one k [] = refl
 map_to_one k (x ∷ xs) = ap (λ (l : List ℤ). k ∷ l) (map_to_one k xs)
+
+-- a list that is written from a place to its end
+pub put_end : (n k : ℕ) (xs ys : List ℤ) → length xs ≤ n + k → put_mid n k xs ys ≡ take n xs ++ ys
+put_end n k xs ys whole =
+    let none : drop k (drop n xs) ≡ [] = drop-drop k n xs ∙ drop_all (n + k) xs whole in
+    ap (λ (l : List ℤ). take n xs ++ l) (ap (λ (l : List ℤ). ys ++ l) none ∙ append-nil ys)
+
+-- a list that has a function at each place, in two parts
+pub tabulate_split : (n m : ℕ) (f : ℕ → ℤ) → tabulate (n + m) f ≡ tabulate n f ++ tabulate m (λ i. f (n + i))
+tabulate_split n zero f = let none : n + 0 ≡ n = omega arith in rw none (sym (append-nil (tabulate n f)))
+tabulate_split n (suc m) f =
+    let more : n + suc m ≡ suc (n + m) = omega arith in
+    rw more (ap (λ (l : List ℤ). l ++ f (n + m) ∷ []) (tabulate_split n m f) ∙ append_assoc (tabulate n f) (tabulate m (λ i. f (n + i))) (f (n + m) ∷ []))
+
+-- a sum in two parts
+pub sum_split : (n m : ℕ) (f : ℕ → ℤ) → sum_below (n + m) f ≡ sum_below n f +ℤ sum_below m (λ i. f (n + i))
+sum_split n zero f = let none : n + 0 ≡ n = omega arith in rw none (sym (+ℤ_idr (sum_below n f)))
+sum_split n (suc m) f =
+    let more : n + suc m ≡ suc (n + m) = omega arith in
+    rw more (ap (λ (z : ℤ). z +ℤ f (n + m)) (sum_split n m f) ∙ +ℤ_assoc (sum_below n f) (sum_below m (λ i. f (n + i))) (f (n + m)))
+
+-- the sum of a part added to that of what is before it
+pub sum_part_more : (ys part : List ℤ) (n m : ℕ) (s r : ℤ) → length part ≡ m → ((i : ℕ) → i < m → element part i ≡ element ys (n + i)) → s ≡ wrapped (sum_below n (element ys)) → r ≡ wrapped (s +ℤ sum_below (length part) (element part)) → r ≡ wrapped (sum_below (n + m) (element ys))
+sum_part_more ys part n m s r long each before added =
+    let same : sum_below (length part) (element part) ≡ sum_below m (λ i. element ys (n + i)) = ap (λ (l : ℕ). sum_below l (element part)) long ∙ sum_below_same m (element part) (λ i. element ys (n + i)) each in
+    added ∙ (ap2 (λ (a b : ℤ). wrapped (a +ℤ b)) before same ∙ (int_wrap-add_left w64 (sum_below n (element ys)) (sum_below m (λ i. element ys (n + i))) ∙ ap wrapped (sym (sum_split n m (element ys)))))
+
+-- numbers that count on from a place
+pub counted_part : (k first : ℤ) (n m : ℕ) → first ≡ wrapped (k +ℤ pos n) → tabulate m (λ i. wrapped (first +ℤ pos i)) ≡ tabulate m (λ i. wrapped (k +ℤ pos (n + i)))
+counted_part k first n m is = tabulate_same m (λ i. wrapped (first +ℤ pos i)) (λ i. wrapped (k +ℤ pos (n + i))) (λ i below. ap (λ (z : ℤ). wrapped (z +ℤ pos i)) is ∙ (int_wrap-add_left w64 (k +ℤ pos n) (pos i) ∙ ap wrapped (+ℤ_assoc k (pos n) (pos i))))
+
+pub count_parts : (k first : ℤ) (n m next : ℕ) (xs ys : List ℤ) → next ≡ n + m → first ≡ wrapped (k +ℤ pos n) → ys ≡ tabulate m (λ i. wrapped (first +ℤ pos i)) → xs ≡ tabulate n (λ i. wrapped (k +ℤ pos i)) → xs ++ ys ≡ tabulate next (λ i. wrapped (k +ℤ pos i))
+count_parts k first n m next xs ys is from written so_far =
+    ap2 ◌++◌ so_far (written ∙ counted_part k first n m from) ∙ (sym (tabulate_split n m (λ i. wrapped (k +ℤ pos i))) ∙ ap (λ (l : ℕ). tabulate l (λ i. wrapped (k +ℤ pos i))) (sym is))
+
+pub count_more : (k first : ℤ) (n m next w : ℕ) (xs ys : List ℤ) → n ≤ length xs → next ≡ n + m → first ≡ wrapped (k +ℤ pos n) → ys ≡ tabulate m (λ i. wrapped (first +ℤ pos i)) → take n xs ≡ tabulate n (λ i. wrapped (k +ℤ pos i)) → take next (put_mid n w xs ys) ≡ tabulate next (λ i. wrapped (k +ℤ pos i))
+count_more k first n m next w xs ys within is from written so_far =
+    let long : length ys ≡ m = ap length written ∙ length_tabulate m (λ i. wrapped (first +ℤ pos i)) in
+    take-put_mid n w xs ys next (omega (arith, long)) within ∙ count_parts k first n m next (take n xs) ys is from written so_far

@@ -4,6 +4,7 @@ use Rattle.std.specs.Int.{w64, int_wrap, int_wrapping_sub, cast_signed, cast_uns
 use Rattle.std.specs.Int.RustNames.{FitsSigned}
 use Rattle.std.proofs.lemmas.Int.{wrapping_add_is, wrapping_sub_is, wrapping_mul_is, wrapping_add_onto, wrapping_add-bits, to_z_pos, int_wrap-add_right, int_wrap-add_left, int_wrap-sub_right, wrapping_sub-bits}
 use Rattle.std.proofs.lemmas.Nat.{mod_below}
+use Rattle.std.proofs.Math.IntN.{+ℤ_assoc}
 use Rattle.dd_kernels.specs.Lists.{wrapped, sum_below}
 use Rattle.dd_kernels.specs.Matrices.{weighed}
 use Rattle.dd_kernels.proofs.ListsLemmas.{ap2}
@@ -16,6 +17,12 @@ pub sum_more : (f : ℕ → ℤ) (i bits : ℕ) (a : ℤ) → bits < 2 ^ 64 → 
 sum_more f i bits a within fits is so_far =
     let before = sum_below i f in
     rw add-one (wrapping_add_onto w64 bits a within fits ∙ (ap (λ (s : ℤ). int_wrap w64 (s +ℤ a)) so_far ∙ (int_wrap-add_left w64 before a ∙ ap (λ (b : ℤ). int_wrap w64 (before +ℤ b)) is)))
+
+-- the same in a sum that starts at another number
+pub sum_more_from : (start : ℤ) (f : ℕ → ℤ) (i bits : ℕ) (a : ℤ) → bits < 2 ^ 64 → FitsSigned w64 a → a ≡ f i → cast_signed w64 bits ≡ wrapped (start +ℤ sum_below i f) → cast_signed w64 ((bits + cast_unsigned w64 a) % 2 ^ 64) ≡ wrapped (start +ℤ sum_below (i + 1) f)
+sum_more_from start f i bits a within fits is so_far =
+    let before = sum_below i f in
+    rw add-one (wrapping_add_onto w64 bits a within fits ∙ (ap (λ (s : ℤ). int_wrap w64 (s +ℤ a)) so_far ∙ (int_wrap-add_left w64 (start +ℤ before) a ∙ (ap (λ (b : ℤ). int_wrap w64 b) (+ℤ_assoc start before a) ∙ ap (λ (b : ℤ). int_wrap w64 (start +ℤ (before +ℤ b))) is))))
 
 -- one product more in a sum that wraps on the way
 pub product_sum_more : (f : ℕ → ℤ) (i bits : ℕ) (a b : ℤ) → bits < 2 ^ 64 → FitsSigned w64 a → FitsSigned w64 b → a *ℤ b ≡ f i → cast_signed w64 bits ≡ wrapped (sum_below i f) → cast_signed w64 ((bits + cast_unsigned w64 a * cast_unsigned w64 b % 2 ^ 64) % 2 ^ 64) ≡ wrapped (sum_below (i + 1) f)

@@ -55,8 +55,21 @@ pub fn neg(x: &mut [i64])
     update(x, |a| 0i64.wrapping_sub(a));
 }
 
-/// Writes `k` and the numbers after it.
+/// Writes `k` and the numbers after it. It goes by blocks of eight, as `update` does.
 pub fn iota(x: &mut [i64], k: i64)
+    ensures { x.new ≡ tabulate (length x.old) (λ i. wrapped (k +ℤ pos i)) }
+{
+    let blocks = x.len() / 8;
+    for b in 0..blocks {
+        let first = k.wrapping_add((8 * b) as i64);
+        count_on(&mut x[8 * b..8 * b + 8], first);
+    }
+    let first = k.wrapping_add((8 * blocks) as i64);
+    count_on(&mut x[8 * blocks..], first);
+}
+
+/// The same, one place after another.
+fn count_on(x: &mut [i64], k: i64)
     ensures { x.new ≡ tabulate (length x.old) (λ i. wrapped (k +ℤ pos i)) }
 {
     for (i, a) in x.iter_mut().enumerate() {

@@ -1,5 +1,5 @@
 //! Kernels that make one number of lists.
-ghost use Rattle.std.specs.Prelude.{◌≡◌, ℕ, ℤ, ◌*ℤ◌, List, [], ◌∷◌, length};
+ghost use Rattle.std.specs.Prelude.{◌≡◌, ℕ, ℤ, ◌+ℤ◌, ◌*ℤ◌, List, [], ◌∷◌, length};
 ghost use Rattle.dd_kernels.specs.Lists.{wrapped, element, sum_below};
 
 /// Writes the sum of `y` into the one element of `x`.
@@ -19,11 +19,24 @@ pub fn dot(x: &mut [i64], y: &[i64], z: &[i64])
     x[0] = dot_of(y, z);
 }
 
-/// The sum of `y`, 0 where it is empty.
+/// The sum of `y`, 0 where it is empty. It goes by blocks of 32, whose loop is unrolled and becomes vector
+/// operations.
 fn sum_of(y: &[i64]) -> i64
     ensures { result ≡ wrapped (sum_below (length y.now) (element y.now)) }
 {
     let mut sum = 0i64;
+    let blocks = y.len() / 32;
+    for k in 0..blocks {
+        sum = add_all(sum, &y[32 * k..32 * k + 32]);
+    }
+    add_all(sum, &y[32 * blocks..])
+}
+
+/// A number with the sum of `y` added.
+fn add_all(start: i64, y: &[i64]) -> i64
+    ensures { result ≡ wrapped (start +ℤ sum_below (length y.now) (element y.now)) }
+{
+    let mut sum = start;
     for a in y {
         sum = sum.wrapping_add(*a);
     }
