@@ -1,4 +1,6 @@
 //! Kernels that compute each element from the scalar and the elements at its place.
+//!
+//! Most are functions of their own, never inlined: in one large function their loops would share its registers.
 ghost use Rattle.std.specs.Prelude.{
   ◌≡◌,
   ℕ,
@@ -33,6 +35,7 @@ pub fn fill(x: &mut [i64], k: i64)
 
 /// Adds `k` to each element.
 #[tactic(auto, using(std::proofs::lemmas::Int::wrapping_add_is))]
+#[inline(never)]
 pub fn addk(x: &mut [i64], k: i64)
     ensures { x.new ≡ map (λ a. wrapping_sum a k) x.old }
 {
@@ -41,6 +44,7 @@ pub fn addk(x: &mut [i64], k: i64)
 
 /// Multiplies each element by `k`.
 #[tactic(auto, using(std::proofs::lemmas::Int::wrapping_mul_is))]
+#[inline(never)]
 pub fn scale(x: &mut [i64], k: i64)
     ensures { x.new ≡ map (λ a. wrapping_product a k) x.old }
 {
@@ -49,23 +53,26 @@ pub fn scale(x: &mut [i64], k: i64)
 
 /// Subtracts each element from 0.
 #[tactic(auto, using(crate::proofs::NumbersLemmas::difference_from_zero))]
+#[inline(never)]
 pub fn neg(x: &mut [i64])
     ensures { x.new ≡ map (λ a. wrapped (pos 0 -ℤ a)) x.old }
 {
     update(x, |a| 0i64.wrapping_sub(a));
 }
 
-/// Writes `k` and the numbers after it. It goes by blocks of eight, as `update` does.
+/// Writes `k` and the numbers after it. It goes by blocks of 32, whose loop is unrolled and becomes
+/// vector operations.
+#[inline(never)]
 pub fn iota(x: &mut [i64], k: i64)
     ensures { x.new ≡ tabulate (length x.old) (λ i. wrapped (k +ℤ pos i)) }
 {
-    let blocks = x.len() / 8;
+    let blocks = x.len() / 32;
     for b in 0..blocks {
-        let first = k.wrapping_add((8 * b) as i64);
-        count_on(&mut x[8 * b..8 * b + 8], first);
+        let first = k.wrapping_add((32 * b) as i64);
+        count_on(&mut x[32 * b..32 * b + 32], first);
     }
-    let first = k.wrapping_add((8 * blocks) as i64);
-    count_on(&mut x[8 * blocks..], first);
+    let first = k.wrapping_add((32 * blocks) as i64);
+    count_on(&mut x[32 * blocks..], first);
 }
 
 /// The same, one place after another.
@@ -96,6 +103,7 @@ pub fn swap(x: &mut [i64], y: &mut [i64])
 
 /// Adds `y` to `x`.
 #[tactic(auto, using(std::proofs::lemmas::Int::wrapping_add_is))]
+#[inline(never)]
 pub fn add(x: &mut [i64], y: &[i64])
     requires { length x.old ≡ length y.now }
     ensures { x.new ≡ zip_with wrapping_sum x.old y.now }
@@ -105,6 +113,7 @@ pub fn add(x: &mut [i64], y: &[i64])
 
 /// Subtracts `y` from `x`.
 #[tactic(auto, using(std::proofs::lemmas::Int::wrapping_sub_is))]
+#[inline(never)]
 pub fn sub(x: &mut [i64], y: &[i64])
     requires { length x.old ≡ length y.now }
     ensures { x.new ≡ zip_with wrapping_difference x.old y.now }
@@ -114,6 +123,7 @@ pub fn sub(x: &mut [i64], y: &[i64])
 
 /// Multiplies `x` by `y`, place by place.
 #[tactic(auto, using(std::proofs::lemmas::Int::wrapping_mul_is))]
+#[inline(never)]
 pub fn mul(x: &mut [i64], y: &[i64])
     requires { length x.old ≡ length y.now }
     ensures { x.new ≡ zip_with wrapping_product x.old y.now }
@@ -122,6 +132,7 @@ pub fn mul(x: &mut [i64], y: &[i64])
 }
 
 /// Adds `k` times `y` to `x`.
+#[inline(never)]
 pub fn axpy(x: &mut [i64], y: &[i64], k: i64)
     requires { length x.old ≡ length y.now }
     ensures { x.new ≡ zip_with (λ a b. wrapped (a +ℤ k *ℤ b)) x.old y.now }
@@ -130,6 +141,7 @@ pub fn axpy(x: &mut [i64], y: &[i64], k: i64)
 }
 
 /// The exclusive or of `x` and `y`, bit by bit.
+#[inline(never)]
 pub fn xor(x: &mut [i64], y: &[i64])
     requires { length x.old ≡ length y.now }
     ensures { x.new ≡ zip_with (int_bit_xor w64) x.old y.now }
@@ -138,6 +150,7 @@ pub fn xor(x: &mut [i64], y: &[i64])
 }
 
 /// The lesser of `x` and `y`, place by place.
+#[inline(never)]
 pub fn min(x: &mut [i64], y: &[i64])
     requires { length x.old ≡ length y.now }
     ensures { x.new ≡ zip_with int_min x.old y.now }
@@ -146,6 +159,7 @@ pub fn min(x: &mut [i64], y: &[i64])
 }
 
 /// The greater of `x` and `y`, place by place.
+#[inline(never)]
 pub fn max(x: &mut [i64], y: &[i64])
     requires { length x.old ≡ length y.now }
     ensures { x.new ≡ zip_with int_max x.old y.now }

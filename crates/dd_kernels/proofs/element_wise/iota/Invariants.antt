@@ -4,4 +4,4 @@ use Rattle.dd_kernels.specs.Lists.{wrapped, tabulate}
 use Rattle.dd_kernels.proofs.element_wise.iota.Given as goal
 
 abbrev pub invariant-loop-b : goal.invariant-loop-b
-invariant-loop-b l = take (8 * l.b) l.x ≡ tabulate (8 * l.b) (λ i. wrapped (l.k +ℤ pos i))
+invariant-loop-b l = take (32 * l.b) l.x ≡ tabulate (32 * l.b) (λ i. wrapped (l.k +ℤ pos i))
