@@ -5,7 +5,5 @@
 //! which front of it was appended (`specs/Appended.antt`). A reader that may stop at each step is
 //! defined by its steps (`specs/Steps.antt`).
 //!
-//! The crate holds definitions and their lemmas, and one law over each of them; it runs nothing.
+//! The crate holds these definitions and, in `proofs/`, the lemmas on them that several crates cite. It has no calls.
 #![tactic(auto)]
-
-pub mod laws;
