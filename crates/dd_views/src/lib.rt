@@ -39,6 +39,3 @@ pub use range::Range;
 pub use shape::Shape;
 pub use span3::Span3;
 pub use view::{View, view_of};
-
-#[cfg(test)]
-mod tests;

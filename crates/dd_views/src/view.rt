@@ -137,3 +137,6 @@ impl View {
         col * u64::from(self.height) + row
     }
 }
+
+#[cfg(test)]
+mod tests;
