@@ -27,3 +27,6 @@ pub fn run_on_one(k: Kernel, scalar: i64, shape: Shape, x: &mut [i64])
         _ => unreachable!(),
     }
 }
+
+#[cfg(test)]
+mod tests;

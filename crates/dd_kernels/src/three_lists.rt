@@ -31,3 +31,6 @@ pub fn run_on_three(
         _ => unreachable!(),
     }
 }
+
+#[cfg(test)]
+mod tests;

@@ -33,3 +33,6 @@ pub fn run_on_two(k: Kernel, scalar: i64, shapes: (Shape, Shape), x: &mut [i64],
         _ => unreachable!(),
     }
 }
+
+#[cfg(test)]
+mod tests;
