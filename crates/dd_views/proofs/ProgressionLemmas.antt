@@ -5,20 +5,12 @@ use Rattle.std.proofs.lemmas.Nat.{mul-le, div-add-mod'}
 use Rattle.std.proofs.lemmas.Bool.{cases_lt}
 use Rattle.dd_views.specs.declared.bounds.Bounds.{Bounds}
 use Rattle.dd_views.specs.Progression.{HasPassed, IsBadRange, IsWithin, ListsCount, number_at}
+use Rattle.dd_views.specs.Room.{IsOpen, IsRoom}
 use Rattle.dd_views.proofs.SignedLemmas.{step_cases, le_from, not_both, times_none, times_up, times_down, size_up, size_down}
 
 -- a quotient by what it is
 pub quotient : (d s : ℕ) → 0 < s → (d / s * s ≤ d) × (d < (d / s + 1) * s)
 quotient d s h = (omega (arith, div-add-mod' d s), omega (arith, div-add-mod' d s))
-
--- a range that isn't empty, with its first number within 1 to length, how far its last one is from it, and how far a
--- number within may be
-pub record IsOpen (b : Bounds) (length room : ℕ) : Type 0 where
-  pub nonzero : b.step ≢ pos 0
-  pub begins : ¬ HasPassed b b.first
-  pub within : IsWithin length b.first
-  pub up : pos 0 <ℤ b.step → pos room ≡ pos length -ℤ b.first
-  pub down : b.step <ℤ pos 0 → pos room ≡ b.first -ℤ pos 1
 
 passed_up : (f s l : ℤ) (i : ℕ) → pos 0 <ℤ s → f ≤ℤ l → (l <ℤ (f +ℤ pos i *ℤ s) → unsigned_abs (l -ℤ f) < i * unsigned_abs s) × (unsigned_abs (l -ℤ f) < i * unsigned_abs s → l <ℤ (f +ℤ pos i *ℤ s))
 passed_up f s l i up le =
@@ -49,13 +41,13 @@ pub record Reaches (b : Bounds) (length room i : ℕ) : Type 0 where
   pub inside : IsWithin length (number_at b i) → i * unsigned_abs b.step ≤ room
   pub near : i * unsigned_abs b.step ≤ room → IsWithin length (number_at b i)
 
-pub reaches : (b : Bounds) (length room i : ℕ) → IsOpen b length room → Reaches b length room i
-reaches b length room i is_open =
+pub reaches : (b : Bounds) (length room i : ℕ) → IsOpen b length → IsRoom b length room → Reaches b length room i
+reaches b length room i is_open has_room =
     ⊎_elim
     (λ up.
     let le : b.first ≤ℤ b.last = le_from (b.first) (b.last) (λ p. is_open.begins (inl (up, p))) in
     let passes = passed_up b.first b.step b.last i up le in
-    let stays = within_up b.first b.step length room i up is_open.within (is_open.up up) in
+    let stays = within_up b.first b.step length room i up is_open.within (has_room.up up) in
     record {
       passed = λ p. ⊎_elim (λ q. passes.0 q.1) (λ q. absurd (not_both b.step up q.0)) p;
       far = λ p. inl (up, passes.1 p);
@@ -65,7 +57,7 @@ reaches b length room i is_open =
     (λ down.
     let le : b.last ≤ℤ b.first = le_from (b.last) (b.first) (λ p. is_open.begins (inr (down, p))) in
     let passes = passed_down b.first b.step b.last i down le in
-    let stays = within_down b.first b.step length room i down is_open.within (is_open.down down) in
+    let stays = within_down b.first b.step length room i down is_open.within (has_room.down down) in
     record {
       passed = λ p. ⊎_elim (λ q. absurd (not_both b.step q.0 down)) (λ q. passes.0 q.1) p;
       far = λ p. inr (down, passes.1 p);
@@ -75,22 +67,22 @@ reaches b length room i is_open =
     (step_cases b.step is_open.nonzero)
 
 -- where the last jump stays within, so does the range
-pub counts : (b : Bounds) (length room jumps : ℕ) → IsOpen b length room → jumps * unsigned_abs b.step ≤ unsigned_abs (b.last -ℤ b.first) → unsigned_abs (b.last -ℤ b.first) < (jumps + 1) * unsigned_abs b.step → ListsCount b (jumps + 1)
-counts b length room jumps is_open before behind = record {
-  listed = λ i lt p. absurd (omega (arith, (reaches b length room i is_open).passed p, mul-le i (unsigned_abs b.step) jumps (unsigned_abs b.step) (omega arith) (omega arith)));
-  ended = (reaches b length room (jumps + 1) is_open).far behind;
+pub counts : (b : Bounds) (length room jumps : ℕ) → IsOpen b length → IsRoom b length room → jumps * unsigned_abs b.step ≤ unsigned_abs (b.last -ℤ b.first) → unsigned_abs (b.last -ℤ b.first) < (jumps + 1) * unsigned_abs b.step → ListsCount b (jumps + 1)
+counts b length room jumps is_open has_room before behind = record {
+  listed = λ i lt p. absurd (omega (arith, (reaches b length room i is_open has_room).passed p, mul-le i (unsigned_abs b.step) jumps (unsigned_abs b.step) (omega arith) (omega arith)));
+  ended = (reaches b length room (jumps + 1) is_open has_room).far behind;
 }
 
 -- how many jumps a number may be from the first
 jumps_at_most : (d s i jumps : ℕ) → i * s ≤ d → d < (jumps + 1) * s → i ≤ jumps
 jumps_at_most d s i jumps le lt = ⊎_elim (λ (l : i < jumps + 1). omega arith) (λ (g : jumps + 1 ≤ i). absurd (omega (arith, mul-le (jumps + 1) s i s g (omega arith)))) (cases_lt i (jumps + 1))
 
-pub stays_within : (b : Bounds) (length room jumps : ℕ) → IsOpen b length room → unsigned_abs (b.last -ℤ b.first) < (jumps + 1) * unsigned_abs b.step → jumps * unsigned_abs b.step ≤ room → ¬ IsBadRange b length
-stays_within b length room jumps is_open behind near bad =
+pub stays_within : (b : Bounds) (length room jumps : ℕ) → IsOpen b length → IsRoom b length room → unsigned_abs (b.last -ℤ b.first) < (jumps + 1) * unsigned_abs b.step → jumps * unsigned_abs b.step ≤ room → ¬ IsBadRange b length
+stays_within b length room jumps is_open has_room behind near bad =
     ⊎_elim (λ zero_step. is_open.nonzero zero_step)
     (λ outside.
     let i = outside.1.0 in
-    let reach = reaches b length room i is_open in
+    let reach = reaches b length room i is_open has_room in
     ⊎_elim
     (λ (gone : unsigned_abs (b.last -ℤ b.first) < i * unsigned_abs b.step). outside.1.2 (subst (λ (x : ℤ). HasPassed b x) outside.1.1 (reach.far gone)))
     (λ (here : i * unsigned_abs b.step ≤ unsigned_abs (b.last -ℤ b.first)).
@@ -99,9 +91,9 @@ stays_within b length room jumps is_open behind near bad =
     (cases_lt (unsigned_abs (b.last -ℤ b.first)) (i * unsigned_abs b.step)))
     bad
 
-pub leaves : (b : Bounds) (length room jumps : ℕ) → IsOpen b length room → jumps * unsigned_abs b.step ≤ unsigned_abs (b.last -ℤ b.first) → room < jumps * unsigned_abs b.step → IsBadRange b length
-leaves b length room jumps is_open before beyond =
-    let reach = reaches b length room jumps is_open in
+pub leaves : (b : Bounds) (length room jumps : ℕ) → IsOpen b length → IsRoom b length room → jumps * unsigned_abs b.step ≤ unsigned_abs (b.last -ℤ b.first) → room < jumps * unsigned_abs b.step → IsBadRange b length
+leaves b length room jumps is_open has_room before beyond =
+    let reach = reaches b length room jumps is_open has_room in
     inr (number_at b jumps, (jumps, refl, λ p. absurd (omega (arith, reach.passed p))), λ p. absurd (omega (arith, reach.inside p)))
 
 -- a range that isn't empty lists its first number

@@ -1,5 +1,6 @@
 pub mod Progression
 pub mod Span
+pub mod Room
 pub mod IndexList
 pub mod Views
 pub mod Triangle

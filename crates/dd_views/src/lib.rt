@@ -16,7 +16,7 @@
 //! Inside, `progression` makes the span that a range lists, of the bounds that `bounds` gives; `span3` goes from
 //! a place to a number and back; `triangle` numbers the elements of columns of 1, 2, 3 and so on; `place` finds
 //! the row and the column of an element by its place in a part's order; and `view` joins them. The definitions
-//! of `specs/Columns.antt`, `Places.antt` and `Triangle.antt` are cited by private contracts alone.
+//! of `specs/Columns.antt`, `Places.antt`, `Room.antt` and `Triangle.antt` are cited by private contracts alone.
 #![tactic(auto)]
 
 mod bounds;

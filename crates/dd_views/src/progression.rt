@@ -1,6 +1,7 @@
 //! The numbers that a range lists.
 ghost use Rattle.std.specs.Prelude.{◌≡◌, ◌≢◌, ◌+◌, ◌*◌, ◌^◌, ◌<◌, ◌≤◌, ◌↔◌, pos, ◌-ℤ◌, ◌≤ℤ◌, ◌<ℤ◌, IsTrue, IsErr, IfOk, IfErr, OnOk, OnErr, unsigned_abs};
 ghost use Rattle.dd_views.specs.Progression.{HasPassed, IsBadRange, IsWithin, bounds_of};
+ghost use Rattle.dd_views.specs.Room.{IsOpen, IsRoom, IsKept};
 ghost use Rattle.dd_views.specs.Span.{IsSpanOf, IsSpanIn};
 
 use crate::bounds::{Bounds, bounds_of};
@@ -40,9 +41,7 @@ pub fn span(range: Range, length: u32) -> Result<Span3, ViewFault>
 
 /// The numbers of a range that isn't empty and whose first number is within 1 to `length`.
 fn listed(bounds: &Bounds, length: u32) -> Result<Span3, ViewFault>
-    requires nonzero { bounds.now.step ≢ pos 0 }
-    requires begins { ¬ HasPassed bounds.now bounds.now.first }
-    requires within { IsWithin length bounds.now.first }
+    requires { IsOpen bounds.now length }
     ensures ok { IfOk result (IsSpanOf bounds.now) }
     ensures within { IfOk result (IsSpanIn length) }
     ensures refused { IsErr result ↔ IsBadRange bounds.now length }
@@ -60,10 +59,7 @@ fn kept(bounds: &Bounds, jumps: u32) -> Span3
     requires low { pos 1 ≤ℤ bounds.now.first }
     requires high { bounds.now.first <ℤ pos (2 ^ 32) }
     requires fits { jumps + 1 < 2 ^ 32 }
-    ensures first { pos result.first ≡ bounds.now.first }
-    ensures one { jumps ≡ 0 → result.step ≡ pos 1 }
-    ensures more { jumps ≢ 0 → result.step ≡ bounds.now.step }
-    ensures count { result.count ≡ jumps + 1 }
+    ensures { IsKept bounds.now jumps result }
 {
     Span3 {
         first: bounds.first as u32,
@@ -103,8 +99,7 @@ fn last_jump(bounds: &Bounds) -> u64
 /// How far the numbers may go from the first, in the direction of the step.
 fn room(bounds: &Bounds, length: u32) -> u64
     requires { IsWithin length bounds.now.first }
-    ensures up { pos 0 <ℤ bounds.now.step → pos result ≡ pos length -ℤ bounds.now.first }
-    ensures down { bounds.now.step <ℤ pos 0 → pos result ≡ bounds.now.first -ℤ pos 1 }
+    ensures { IsRoom bounds.now length result }
 {
     if bounds.step > 0 {
         u64::from(length) - bounds.first as u64
