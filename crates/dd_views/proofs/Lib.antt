@@ -7,4 +7,5 @@ pub mod ColumnsLemmas
 pub mod ViewLemmas
 pub mod WayLemmas
 pub mod ElementsLemmas
+pub mod OnceLemmas
 mod IndexListExamples

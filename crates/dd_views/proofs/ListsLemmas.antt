@@ -54,10 +54,10 @@ filter_run p a (suc m) lo (suc n) run = ⊎_elim
 abbrev pub Has : List ℕ → ℕ → Type 0
 Has xs y = Contains xs y
 
-has_head : (x y : ℕ) (xs : List ℕ) → x ≡ y → Has (x ∷ xs) y
+pub has_head : (x y : ℕ) (xs : List ℕ) → x ≡ y → Has (x ∷ xs) y
 has_head x y xs same = (0, omega arith, same)
 
-has_tail : (x y : ℕ) (xs : List ℕ) → Has xs y → Has (x ∷ xs) y
+pub has_tail : (x y : ℕ) (xs : List ℕ) → Has xs y → Has (x ∷ xs) y
 has_tail x y xs there = (suc there.0, omega (arith, there.1), there.2)
 
 cons_at : (x y k : ℕ) (xs : List ℕ) → k < length (x ∷ xs) → get_or (x ∷ xs) k y ≡ y → (x ≡ y) ⊎ Has xs y

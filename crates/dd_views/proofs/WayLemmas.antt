@@ -30,7 +30,7 @@ one_way s index a b wa wb = ⊎_elim
     (λ x. ⊎_elim (λ y. absurd (not_both s.step y.0 x.0)) (λ y. omega (arith, x.1, y.1)) wb)
     wa
 
-exact : (q s w : ℕ) → 0 < s → q * s ≡ w → w / s ≡ q
+pub exact : (q s w : ℕ) → 0 < s → q * s ≡ w → w / s ≡ q
 exact q s w stride e = let zero_more : w ≡ q * s + 0 = omega arith in rw zero_more (div-mul-add q s 0 stride)
 
 -- the one place that a number may have

@@ -1,5 +1,5 @@
 //! Views and their elements.
-ghost use Rattle.std.specs.Prelude.{◌≡◌, ◌≢◌, ◌+◌, ◌*◌, ◌^◌, ◌<◌, ◌≤◌, ◌↔◌, ◌⊎◌, Contains, IsTrue, IfOk, length, slice_index};
+ghost use Rattle.std.specs.Prelude.{◌≡◌, ◌≢◌, ◌+◌, ◌*◌, ◌^◌, ◌<◌, ◌≤◌, ◌↔◌, ◌⊎◌, AllPairs, Contains, IsTrue, IfOk, length, slice_index};
 ghost use Rattle.dd_views.specs.declared.shape.Shape.{Shape};
 ghost use Rattle.dd_views.specs.IndexList.{index_list, position};
 ghost use Rattle.dd_views.specs.Views.{HasBadRange, IsNotSquare, IsView, IsViewOf, Shows, shape_of};
@@ -25,7 +25,7 @@ pub struct View {
     pub part: Part,
 }
 
-/// A view of an array of the shape. It takes no memory.
+/// A view of an array of the shape, which has no position twice. It takes no memory.
 ///
 /// `BadRange` comes exactly where `span` refuses one of both ranges, and `NotSquare` exactly where it refuses
 /// none, a part is asked for, and there aren't as many rows as columns.
@@ -39,6 +39,7 @@ pub fn view_of(
     requires { shape.rows * shape.cols < 2 ^ 63 }
     ensures ok { IfOk result (Shows array shape rows cols part) }
     ensures view { IfOk result (IsViewOf shape) }
+    ensures once { IfOk result (λ v. AllPairs (λ x y. x ≢ y) (index_list v)) }
     ensures bad_range { (result ≡ Err ViewFault.BadRange) ↔ HasBadRange shape rows cols }
     ensures not_square { (result ≡ Err ViewFault.NotSquare) ↔ ((¬ HasBadRange shape rows cols) × IsNotSquare shape rows cols part) }
 {
