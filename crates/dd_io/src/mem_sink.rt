@@ -1,4 +1,4 @@
-ghost use Rattle.std.specs.Prelude.{◌≡◌, ◌+◌, ◌-◌, ◌<◌, ◌≤◌, min, [], ◌++◌, length, take, ◌↔◌, ◌⊎◌, Some, IfOk, IsErr, OnErr, Contains};
+ghost use Rattle.std.specs.Prelude.{◌≡◌, ◌+◌, ◌-◌, ◌<◌, ◌≤◌, min, [], ◌++◌, length, take, ◌↔◌, ◌⊎◌, Some, IfOk, OnOk, IsErr, OnErr, Contains};
 ghost use Rattle.std.specs.Io.KnownBytes.{WriteAppends};
 ghost use Rattle.dd_causes.specs.Counts.{FailsOnlyIfRose, one_more};
 
@@ -75,6 +75,7 @@ impl Sink for MemSink {
         ensures progress { 0 < length bytes.now → IfOk result (λ n. 0 < n) }
         ensures grown { WriteAppends (Some self.old.held) (Some self.new.held) result bytes.now }
         ensures cause { FailsOnlyIfRose result self.old.faults self.new.faults }
+        ensures kept { OnOk result (self.new.faults ≡ self.old.faults) }
         ensures later { self.old.faults ≤ self.new.faults }
 
         // Which calls fail, and how many bytes the others take.

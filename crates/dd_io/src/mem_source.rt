@@ -1,4 +1,4 @@
-ghost use Rattle.std.specs.Prelude.{◌≡◌, ◌+◌, ◌≤◌, min, ◌++◌, length, take, drop, ◌↔◌, Some, IfOk, IsErr, OnErr, Contains};
+ghost use Rattle.std.specs.Prelude.{◌≡◌, ◌+◌, ◌≤◌, min, ◌++◌, length, take, drop, ◌↔◌, Some, IfOk, OnOk, IsErr, OnErr, Contains};
 ghost use Rattle.std.specs.Io.KnownBytes.{ReadConsumes};
 ghost use Rattle.dd_causes.specs.Counts.{FailsOnlyIfRose, one_more};
 
@@ -56,6 +56,7 @@ impl Source for MemSource {
         ensures within { IfOk result (λ n. n ≤ length buf.new) }
         ensures taken { ReadConsumes (Some self.old.left) (Some self.new.left) result buf.new }
         ensures cause { FailsOnlyIfRose result self.old.faults self.new.faults }
+        ensures kept { OnOk result (self.new.faults ≡ self.old.faults) }
         ensures later { self.old.faults ≤ self.new.faults }
 
         // Which calls fail, and how many bytes the others give.

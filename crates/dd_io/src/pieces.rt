@@ -1,4 +1,4 @@
-ghost use Rattle.std.specs.Prelude.{◌≤◌, OnOk, OnErr};
+ghost use Rattle.std.specs.Prelude.{◌≡◌, ◌≤◌, OnOk, OnErr};
 ghost use Rattle.std.specs.List.{flat_map};
 ghost use Rattle.std.specs.Io.KnownBytes.{Appends};
 ghost use Rattle.dd_causes.specs.Counts.{FailsOnlyIfRose};
@@ -16,6 +16,7 @@ pub fn write_pieces<K: Sink>(out: &mut K, pieces: &[&[u8]]) -> Result<(), IoFaul
     ensures all { OnOk result (Appends (K.taken out.old) (K.taken out.new) (flat_map (λ p. p.now) pieces.now)) }
     ensures front { OnErr result (AppendsFront (K.taken out.old) (K.taken out.new) (flat_map (λ p. p.now) pieces.now)) }
     ensures cause { FailsOnlyIfRose result (K.faults out.old) (K.faults out.new) }
+    ensures kept { OnOk result (K.faults out.new ≡ K.faults out.old) }
     ensures later { K.faults out.old ≤ K.faults out.new }
 {
     for piece in pieces {

@@ -49,6 +49,7 @@ pub fn read_all<S: Source>(alloc: Global, src: &mut S, limit: usize) -> Result<V
     ensures within { IfOk result (λ bytes. vec_len bytes ≤ limit) }
     ensures early { IfErr result (λ end. EndsEarly end (S.left src.old) (S.left src.new) limit) }
     ensures cause { IsErrOf result ReadEnd.ReadFault → Rose (S.faults src.old) (S.faults src.new) }
+    ensures kept { (¬ IsErrOf result ReadEnd.ReadFault) → S.faults src.new ≡ S.faults src.old }
     ensures later { S.faults src.old ≤ S.faults src.new }
 {
     let mut bytes = Vec::new(alloc);

@@ -1,4 +1,4 @@
-ghost use Rattle.std.specs.Prelude.{ℕ, ◌<◌, ◌≤◌, List, length, Option, IfOk};
+ghost use Rattle.std.specs.Prelude.{◌≡◌, ℕ, ◌<◌, ◌≤◌, List, length, Option, IfOk, OnOk};
 ghost use Rattle.std.specs.Io.KnownBytes.{WriteAppends};
 ghost use Rattle.dd_causes.specs.Counts.{FailsOnlyIfRose};
 
@@ -15,11 +15,12 @@ pub trait Sink {
     /// Takes a front of the bytes, and answers how many those are: at least one of bytes that aren't none.
     ///
     /// # Errors
-    /// A fault, which the sink has counted. Nothing was taken then.
+    /// A fault, which the sink has counted, as it counts nothing else. Nothing was taken then.
     fn write(&mut self, bytes: &[u8]) -> Result<usize, IoFault>
         ensures within { IfOk result (λ n. n ≤ length bytes.now) }
         ensures progress { 0 < length bytes.now → IfOk result (λ n. 0 < n) }
         ensures grown { WriteAppends (taken self.old) (taken self.new) result bytes.now }
         ensures cause { FailsOnlyIfRose result (faults self.old) (faults self.new) }
+        ensures kept { OnOk result (faults self.new ≡ faults self.old) }
         ensures later { faults self.old ≤ faults self.new };
 }

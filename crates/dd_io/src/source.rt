@@ -1,4 +1,4 @@
-ghost use Rattle.std.specs.Prelude.{ℕ, ◌≤◌, List, length, Option, IfOk};
+ghost use Rattle.std.specs.Prelude.{◌≡◌, ℕ, ◌≤◌, List, length, Option, IfOk, OnOk};
 ghost use Rattle.std.specs.Io.KnownBytes.{ReadConsumes};
 ghost use Rattle.dd_causes.specs.Counts.{FailsOnlyIfRose};
 
@@ -16,10 +16,11 @@ pub trait Source {
     /// that isn't empty is the end of the input.
     ///
     /// # Errors
-    /// A fault, which the source has counted. Nothing was taken then.
+    /// A fault, which the source has counted, as it counts nothing else. Nothing was taken then.
     fn read(&mut self, buf: &mut [u8]) -> Result<usize, IoFault>
         ensures within { IfOk result (λ n. n ≤ length buf.new) }
         ensures taken { ReadConsumes (left self.old) (left self.new) result buf.new }
         ensures cause { FailsOnlyIfRose result (faults self.old) (faults self.new) }
+        ensures kept { OnOk result (faults self.new ≡ faults self.old) }
         ensures later { faults self.old ≤ faults self.new };
 }

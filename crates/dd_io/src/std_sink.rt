@@ -1,4 +1,4 @@
-ghost use Rattle.std.specs.Prelude.{◌≡◌, ◌<◌, ◌≤◌, length, IfOk, is_ok, if◌then◌else◌};
+ghost use Rattle.std.specs.Prelude.{◌≡◌, ◌<◌, ◌≤◌, length, IfOk, OnOk, is_ok, if◌then◌else◌};
 ghost use Rattle.std.specs.Io.KnownBytes.{WriteAppends};
 ghost use Rattle.dd_causes.specs.Counts.{FailsOnlyIfRose, one_more};
 
@@ -46,6 +46,7 @@ impl<W: Write + Drop> Sink for StdSink<W> {
         ensures progress { 0 < length bytes.now → IfOk result (λ n. 0 < n) }
         ensures grown { WriteAppends (W.contents self.old.inner) (W.contents self.new.inner) result bytes.now }
         ensures cause { FailsOnlyIfRose result self.old.faults self.new.faults }
+        ensures kept { OnOk result (self.new.faults ≡ self.old.faults) }
         ensures later { self.old.faults ≤ self.new.faults }
         ensures counted { self.new.faults ≡ (if is_ok result then self.old.faults else one_more self.old.faults) }
     {

@@ -1,4 +1,4 @@
-ghost use Rattle.std.specs.Prelude.{◌≡◌, ◌≤◌, length, IfOk, is_ok, if◌then◌else◌};
+ghost use Rattle.std.specs.Prelude.{◌≡◌, ◌≤◌, length, IfOk, OnOk, is_ok, if◌then◌else◌};
 ghost use Rattle.std.specs.Io.KnownBytes.{ReadConsumes};
 ghost use Rattle.dd_causes.specs.Counts.{FailsOnlyIfRose, one_more};
 
@@ -43,6 +43,7 @@ impl<R: Read + Drop> Source for StdSource<R> {
         ensures within { IfOk result (λ n. n ≤ length buf.new) }
         ensures taken { ReadConsumes (R.remaining self.old.inner) (R.remaining self.new.inner) result buf.new }
         ensures cause { FailsOnlyIfRose result self.old.faults self.new.faults }
+        ensures kept { OnOk result (self.new.faults ≡ self.old.faults) }
         ensures later { self.old.faults ≤ self.new.faults }
         ensures counted { self.new.faults ≡ (if is_ok result then self.old.faults else one_more self.old.faults) }
     {

@@ -132,12 +132,17 @@ fn takes_few_bytes_and_fails_where_told(rt: HostRuntime) -> Result<(), Fail> {
     Ok(())
 }
 
-// A reader and a writer that fail, and one that takes nothing.
+// A reader and a writer that fail, a writer that takes nothing, and a reader and writer whose first call alone fails.
 #[derive(Clone, Copy)]
 struct Closed;
 
 #[derive(Clone, Copy)]
 struct Stuck;
+
+#[derive(Clone, Copy)]
+struct Shaky {
+    failed: bool,
+}
 
 impl Read for Closed {
     fn read(&mut self, _buf: &mut [u8]) -> io::Result<usize> {
@@ -165,6 +170,30 @@ impl Write for Stuck {
     }
 }
 
+impl Read for Shaky {
+    fn read(&mut self, _buf: &mut [u8]) -> io::Result<usize> {
+        if self.failed {
+            return Ok(0);
+        }
+        self.failed = true;
+        Err(io::Error::from(ErrorKind::Interrupted))
+    }
+}
+
+impl Write for Shaky {
+    fn write(&mut self, buf: &[u8]) -> io::Result<usize> {
+        if self.failed {
+            return Ok(buf.len());
+        }
+        self.failed = true;
+        Err(io::Error::from(ErrorKind::Interrupted))
+    }
+
+    fn flush(&mut self) -> io::Result<()> {
+        Ok(())
+    }
+}
+
 #[test]
 fn reads_from_a_reader(rt: HostRuntime) -> Result<(), Fail> {
     let bytes = pattern(rt.alloc(), 9000)?;
@@ -173,6 +202,9 @@ fn reads_from_a_reader(rt: HostRuntime) -> Result<(), Fail> {
     assert_eq!(rt; all.as_slice(), bytes.as_slice());
     let failed = read_all(rt.alloc(), &mut StdSource::new(Closed), 9000);
     assert_eq!(rt; failed.err(), Some(ReadEnd::ReadFault));
+    let mut shaky = StdSource::new(Shaky { failed: false });
+    assert_eq!(rt; shaky.read(&mut [0]), Err(IoFault));
+    assert_eq!(rt; shaky.read(&mut [0]), Ok(0));
     Ok(())
 }
 
@@ -187,5 +219,8 @@ fn writes_to_a_writer(rt: HostRuntime) -> Result<(), Fail> {
     assert_eq!(rt; write_all(&mut StdSink::new(Closed), b"ab"), Err(IoFault));
     assert_eq!(rt; write_all(&mut StdSink::new(Stuck), b"ab"), Err(IoFault));
     assert_eq!(rt; StdSink::new(Stuck).write(b""), Ok(0));
+    let mut shaky = StdSink::new(Shaky { failed: false });
+    assert_eq!(rt; shaky.write(b"ab"), Err(IoFault));
+    assert_eq!(rt; shaky.write(b"ab"), Ok(2));
     Ok(())
 }

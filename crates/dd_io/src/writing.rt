@@ -1,4 +1,4 @@
-ghost use Rattle.std.specs.Prelude.{◌≤◌, OnOk, OnErr};
+ghost use Rattle.std.specs.Prelude.{◌≡◌, ◌≤◌, OnOk, OnErr};
 ghost use Rattle.std.specs.Io.KnownBytes.{Appends};
 ghost use Rattle.dd_causes.specs.Counts.{FailsOnlyIfRose};
 ghost use Rattle.dd_causes.specs.Appended.{AppendsFront};
@@ -14,6 +14,7 @@ pub fn write_all<K: Sink>(out: &mut K, bytes: &[u8]) -> Result<(), IoFault>
     ensures all { OnOk result (Appends (K.taken out.old) (K.taken out.new) bytes.now) }
     ensures front { OnErr result (AppendsFront (K.taken out.old) (K.taken out.new) bytes.now) }
     ensures cause { FailsOnlyIfRose result (K.faults out.old) (K.faults out.new) }
+    ensures kept { OnOk result (K.faults out.new ≡ K.faults out.old) }
     ensures later { K.faults out.old ≤ K.faults out.new }
 {
     let mut rest = bytes;

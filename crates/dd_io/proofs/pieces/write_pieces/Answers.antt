@@ -8,7 +8,7 @@ use Rattle.dd_io.proofs.pieces.write_pieces.Goals as goal
 pub loop-piece-preserved : goal.loop-piece-preserved
 loop-piece-preserved g c =
     let next = at_drop_more (flat_map (λ p. p.now)) c.args.pieces.now c.loop-piece.piece-index _ (omega arith) in
-    (all_but_more c.loop-piece.invariant.0 _ _ next c.in_ok-write_all.ensures.all, omega (arith, c.loop-piece.invariant.1, c.in_ok-write_all.ensures.later))
+    (all_but_more c.loop-piece.invariant.0 _ _ next c.in_ok-write_all.ensures.all, omega (arith, c.loop-piece.invariant.1, c.in_ok-write_all.ensures.kept))
 
 pub returns-in_err-write_all-clause-front : goal.returns-in_err-write_all-clause-front
 returns-in_err-write_all-clause-front g c =

@@ -11,5 +11,5 @@ loop-rest-preserved g c =
     let split = sym (take-append-drop n rest) ∙ ap (λ l. take n rest ++ l) (sym (take_rest rest n)) in
     record {
       appended = all_but_more c.loop-rest.invariant.appended (take n rest) (take (length rest - n) (drop n rest)) split c.in_ok-taken.ensures.grown;
-      later = omega arith;
+      kept = omega (arith, c.in_ok-taken.ensures.kept, c.loop-rest.invariant.kept);
     }
