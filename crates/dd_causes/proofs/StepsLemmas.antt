@@ -1,6 +1,6 @@
 -- What a definition by steps tells of each step, where it gives a value.
 use Rattle.std.proofs.Common.{◌≡◌, Bool, true, false, cond, Option, None, Some, refl, ◌⊎◌, inl, inr}
-use Rattle.dd_causes.specs.Steps.{◌>>=◌}
+use Rattle.dd_causes.specs.Steps.{◌>>=◌, either_way}
 
 -- a step gave its value, and the next step the result
 pub bind_some : {A B : Type 0} (step : Option A) (next : A → Option B) (y : B) → (step >>= next) ≡ Some y → (x : A) × (step ≡ Some x) × (next x ≡ Some y)
@@ -16,3 +16,8 @@ guard_some false rest y e = absurd (cc)
 pub chosen : {A : Type 0} (test : Bool) (x y z : A) → cond test x y ≡ z → ((test ≡ true) × (x ≡ z)) ⊎ ((test ≡ false) × (y ≡ z))
 chosen true x y z e = inl (refl, e)
 chosen false x y z e = inr (refl, e)
+
+-- which way a step went
+pub which_way : {A B : Type 0} (step : Option A) (next : A → Option B) (other : Option B) (y : B) → either_way step next other ≡ Some y → ((x : A) × (step ≡ Some x) × (next x ≡ Some y)) ⊎ ((step ≡ None) × (other ≡ Some y))
+which_way None next other y e = inr (refl, e)
+which_way (Some x) next other y e = inl (x, refl, e)

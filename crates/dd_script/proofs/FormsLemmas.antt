@@ -9,26 +9,12 @@ use Rattle.std.proofs.lemmas.Bool.{eqb-true, ltb-true, lt-ltb}
 use Rattle.dd_causes.specs.Steps.{◌>>=◌}
 use Rattle.dd_causes.proofs.StepsLemmas.{bind_some, guard_some, chosen}
 use Rattle.dd_tokens.specs.Lexeme.{Lexeme, word, number, mark}
+use Rattle.dd_script.specs.Front.{word_at, mark_at}
+use Rattle.dd_script.specs.Int64.{fits_int64}
+use Rattle.dd_script.proofs.Int64Lemmas.{fits_from_test, test_from_fits}
+use Rattle.dd_script.proofs.FrontLemmas.{by_word, by_mark}
 use Rattle.dd_script.specs.Said.{Said, Filling, zeros, constant, nothing, array, region, fill, copy, add, end, print, filling, access, spelling, FillingFits, NumbersFit}
-use Rattle.dd_script.specs.Forms.{fits_int64, word_at, number_at, mark_at, at_end, keyword_at, access_at, filling_by, array_at, print_at, fill_at, copy_at, add_at, task_by, task_at, statement_by, said_at}
-
-fits_from_test : (z : ℤ) → fits_int64 z ≡ true → FitsSigned w64 z
-fits_from_test (pos n) e = record { sfits = ltb-true _ _ e }
-fits_from_test (negsuc n) e = record { sfits = ltb-true _ _ e }
-
-test_from_fits : (z : ℤ) → FitsSigned w64 z → fits_int64 z ≡ true
-test_from_fits (pos n) f = lt-ltb _ _ f.sfits
-test_from_fits (negsuc n) f = lt-ltb _ _ f.sfits
-
-word_takes : (ls : List Lexeme) (y : List ℕ × List Lexeme) → word_at ls ≡ Some y → ls ≡ word y.0 ∷ y.1
-unfolding word_at
-word_takes [] y e = absurd cc
-word_takes (word bs ∷ rest) y e = ap (λ (p : List ℕ × List Lexeme). word p.0 ∷ p.1) (same_Some _ _ e)
-word_takes (number z ∷ rest) y e = absurd cc
-word_takes (mark b ∷ rest) y e = absurd cc
-
-by_word : {B : Type 0} (ls : List Lexeme) (f : List ℕ × List Lexeme → Option B) (y : B) → (word_at ls >>= f) ≡ Some y → (x : List ℕ × List Lexeme) × (ls ≡ word x.0 ∷ x.1) × (f x ≡ Some y)
-by_word ls f y e = let p = bind_some (word_at ls) f y e in (p.0, word_takes ls p.0 p.1, p.2)
+use Rattle.dd_script.specs.Forms.{number_at, at_end, keyword_at, access_at, filling_by, array_at, print_at, fill_at, copy_at, add_at, task_by, task_at, statement_by, said_at}
 
 number_takes : (ls : List Lexeme) (y : ℤ × List Lexeme) → number_at ls ≡ Some y → (ls ≡ number y.0 ∷ y.1) × FitsSigned w64 y.0
 unfolding number_at
@@ -42,19 +28,6 @@ number_takes (mark b ∷ rest) y e = absurd cc
 
 by_number : {B : Type 0} (ls : List Lexeme) (f : ℤ × List Lexeme → Option B) (y : B) → (number_at ls >>= f) ≡ Some y → (x : ℤ × List Lexeme) × (ls ≡ number x.0 ∷ x.1) × FitsSigned w64 x.0 × (f x ≡ Some y)
 by_number ls f y e = let p = bind_some (number_at ls) f y e in let t = number_takes ls p.0 p.1 in (p.0, t.0, t.1, p.2)
-
-mark_takes : (b : ℕ) (ls rest : List Lexeme) → mark_at b ls ≡ Some rest → ls ≡ mark b ∷ rest
-unfolding mark_at
-mark_takes b [] rest e = absurd cc
-mark_takes b (word bs ∷ ls) rest e = absurd cc
-mark_takes b (number z ∷ ls) rest e = absurd cc
-mark_takes b (mark c ∷ ls) rest e =
-    let g = guard_some (eqb c b) (Some ls) rest e in
-    let same : ls ≡ rest = same_Some _ _ g.1 in
-    ap (λ l. mark l ∷ ls) (eqb-true c b g.0) ∙ ap (λ l. mark b ∷ l) same
-
-by_mark : {B : Type 0} (b : ℕ) (ls : List Lexeme) (f : List Lexeme → Option B) (y : B) → (mark_at b ls >>= f) ≡ Some y → (rest : List Lexeme) × (ls ≡ mark b ∷ rest) × (f rest ≡ Some y)
-by_mark b ls f y e = let p = bind_some (mark_at b ls) f y e in (p.0, mark_takes b ls p.0 p.1, p.2)
 
 keyword_takes : (wanted : List ℕ) (ls rest : List Lexeme) → keyword_at wanted ls ≡ Some rest → ls ≡ word wanted ∷ rest
 unfolding keyword_at

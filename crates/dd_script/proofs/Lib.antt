@@ -5,3 +5,12 @@ pub mod ReadingLemmas
 pub mod SoundLemmas
 pub mod MeaningLemmas
 pub mod ProfileExamples
+mod KeywordsLemmas
+mod Int64Lemmas
+mod FrontLemmas
+mod ManyLemmas
+mod ViewStepsLemmas
+mod ArgumentStepsLemmas
+mod FormStepsLemmas
+mod GatheredLemmas
+mod ReadsLemmas

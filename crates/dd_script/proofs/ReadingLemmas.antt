@@ -8,7 +8,7 @@ use Rattle.dd_tokens.specs.Bytes.{IsText}
 use Rattle.dd_tokens.specs.Tokens.{AreTokensOf}
 use Rattle.dd_tokens.specs.Lexeme.{lexemes_of}
 use Rattle.dd_script.specs.declared.row.FirstRow.{FirstRow}
-use Rattle.dd_script.specs.declared.statement.FirstLine.{FirstLine}
+use Rattle.dd_script.specs.declared.first_line.FirstLine.{FirstLine}
 use Rattle.dd_script.specs.Lines.{lines_of}
 use Rattle.dd_script.specs.Said.{Said, Says, SaysOnly}
 use Rattle.dd_script.specs.View.{said_of}

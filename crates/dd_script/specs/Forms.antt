@@ -1,32 +1,17 @@
 -- Reading what a line says from its tokens, step by step from the left.
-use Rattle.std.specs.Prelude.{ℕ, ℤ, pos, negsuc, Bool, ◌^◌, nat_lt, ◌==◌, List, [], ◌∷◌, Option, None, Some, codes, if◌then◌else◌}
+use Rattle.std.specs.Prelude.{ℕ, ℤ, List, [], ◌∷◌, Option, None, Some, codes, if◌then◌else◌}
 use Rattle.std.specs.Str.{bytes_eq}
 use Rattle.dd_causes.specs.Steps.{◌>>=◌}
 use Rattle.dd_tokens.specs.Lexeme.{Lexeme, word, number, mark}
+use Rattle.dd_script.specs.Int64.{fits_int64}
+use Rattle.dd_script.specs.Front.{word_at, mark_at}
 use Rattle.dd_script.specs.Said.{Said, Filling, zeros, constant, nothing, array, region, fill, copy, add, end, print}
-
--- an Int64
-abbrev pub fits_int64 : ℤ → Bool
-fits_int64 (pos n) = nat_lt n (2 ^ 63)
-fits_int64 (negsuc n) = nat_lt n (2 ^ 63)
-
-unfoldable pub word_at : List Lexeme → Option (List ℕ × List Lexeme)
-word_at [] = None
-word_at (word bs ∷ rest) = Some (bs, rest)
-word_at (number z ∷ rest) = None
-word_at (mark b ∷ rest) = None
 
 unfoldable pub number_at : List Lexeme → Option (ℤ × List Lexeme)
 number_at [] = None
 number_at (word bs ∷ rest) = None
 number_at (number z ∷ rest) = if fits_int64 z then Some (z, rest) else None
 number_at (mark b ∷ rest) = None
-
-unfoldable pub mark_at : ℕ → List Lexeme → Option (List Lexeme)
-mark_at wanted [] = None
-mark_at wanted (word bs ∷ rest) = None
-mark_at wanted (number z ∷ rest) = None
-mark_at wanted (mark b ∷ rest) = if b == wanted then Some rest else None
 
 -- x, where no token is left
 unfoldable pub at_end : List Lexeme → Said → Option Said

@@ -1,9 +1,9 @@
 -- What the reader's own types say.
 use Rattle.dd_script.specs.Said.{Said, Filling, zeros, constant, nothing, array, region, fill, copy, add, end, print}
-use Rattle.dd_script.specs.declared.statement.Filling.{Filling as Filled}
-use Rattle.dd_script.specs.declared.statement.Filling.TheVariants.{Zeros, Constant}
-use Rattle.dd_script.specs.declared.statement.FirstLine.{FirstLine}
-use Rattle.dd_script.specs.declared.statement.FirstLine.TheVariants.{Nothing, Array, Region, Fill, Copy, Add, End, Print}
+use Rattle.dd_script.specs.declared.first_line.Filling.{Filling as Filled}
+use Rattle.dd_script.specs.declared.first_line.Filling.TheVariants.{Zeros, Constant}
+use Rattle.dd_script.specs.declared.first_line.FirstLine.{FirstLine}
+use Rattle.dd_script.specs.declared.first_line.FirstLine.TheVariants.{Nothing, Array, Region, Fill, Copy, Add, End, Print}
 
 abbrev pub filling_of : Filled → Filling
 filling_of Zeros = zeros

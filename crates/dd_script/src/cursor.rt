@@ -6,12 +6,13 @@ ghost use Rattle.std.specs.List.{AllByRecursion};
 ghost use Rattle.std.specs.Str.{bytes_eq};
 ghost use Rattle.dd_tokens.specs.TokenIn.{IsTokenIn};
 ghost use Rattle.dd_tokens.specs.Lexeme.{lexemes_of};
-ghost use Rattle.dd_script.specs.Forms.{word_at, mark_at, number_at};
+ghost use Rattle.dd_script.specs.Front.{word_at, mark_at};
+ghost use Rattle.dd_script.specs.Forms.{number_at};
 
 use dd_tokens::{Token, TokenKind, text};
 
 /// A word.
-#[tactic(auto, unfolding(crate::specs::Forms::word_at))]
+#[tactic(auto, unfolding(crate::specs::Front::word_at))]
 pub(crate) fn word<'a, 't>(line: &'a [u8], tokens: &'t [Token]) -> Option<(&'a [u8], &'t [Token])>
     requires { AllByRecursion (IsTokenIn line.now) tokens.now }
     ensures value { option_map (λ x. (x.0.now, lexemes_of line.now x.1.now)) result ≡ word_at (lexemes_of line.now tokens.now) }
@@ -24,7 +25,7 @@ pub(crate) fn word<'a, 't>(line: &'a [u8], tokens: &'t [Token]) -> Option<(&'a [
 }
 
 /// That mark.
-#[tactic(auto, unfolding(crate::specs::Forms::mark_at))]
+#[tactic(auto, unfolding(crate::specs::Front::mark_at))]
 pub(crate) fn mark<'t>(wanted: u8, line: &[u8], tokens: &'t [Token]) -> Option<&'t [Token]>
     requires { AllByRecursion (IsTokenIn line.now) tokens.now }
     ensures value { option_map (λ x. lexemes_of line.now x.now) result ≡ mark_at wanted (lexemes_of line.now tokens.now) }

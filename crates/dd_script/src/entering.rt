@@ -6,8 +6,8 @@ ghost use Rattle.dd_script.specs.AboveView.{names_of, shapes_known, above_of, En
 
 use crate::above::{Above, Known};
 use crate::cursor::is_word;
+use crate::first_line::{ArrayLine, Filling, FirstLine};
 use crate::row::FirstRow;
-use crate::statement::{ArrayLine, Filling, FirstLine};
 use dd_kernels::{Kernel, Shape};
 use std::alloc::AllocError;
 

@@ -1,8 +1,15 @@
 //! Laws over the definitions of this crate. Each is a function without arguments whose contract is the law.
 
-ghost use Rattle.std.specs.Prelude.{◌≡◌, ℕ, List};
+ghost use Rattle.std.specs.Prelude.{◌≡◌, ℕ, List, Option};
 ghost use Rattle.dd_script.specs.declared.row.FirstRow.{FirstRow};
+ghost use Rattle.dd_script.specs.declared.statement.Statement.{Statement};
+ghost use Rattle.dd_script.specs.Reads.{Reads};
 ghost use Rattle.dd_script.specs.Profile.{IsProfile, LeavesAt};
+
+/// A line says one statement at most.
+pub fn one_reading()
+    ensures { (line : List ℕ) (x y : Option Statement) → Reads line x → Reads line y → x ≡ y }
+{}
 
 /// A text of the profile makes one list of rows.
 pub fn one_meaning()

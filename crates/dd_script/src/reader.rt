@@ -10,10 +10,10 @@ ghost use Rattle.dd_script.specs.Profile.{IsProfile, IsFirstFault};
 use crate::above::Above;
 use crate::entering::enter;
 use crate::fault::FirstFault;
-use crate::forms::said;
+use crate::first_line::FirstLine;
+use crate::first_forms::said;
 use crate::lines::first_line;
 use crate::row::FirstRow;
-use crate::statement::FirstLine;
 use dd_tokens::{LineFault, tokens};
 use std::alloc::Global;
 

@@ -7,7 +7,7 @@ ghost use Rattle.dd_script.specs.View.{said_of, filling_of};
 ghost use Rattle.dd_script.specs.Forms.{at_end, access_at, keyword_at, print_at, copy_at, add_at, fill_at, task_by, task_at, filling_by, array_at, statement_by, said_at};
 
 use crate::cursor::{is_word, mark, number, word};
-use crate::statement::{ArrayLine, Filling, FirstLine};
+use crate::first_line::{ArrayLine, Filling, FirstLine};
 use dd_tokens::Token;
 
 /// That word and no other.
