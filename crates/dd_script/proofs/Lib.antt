@@ -14,3 +14,4 @@ mod ArgumentStepsLemmas
 mod FormStepsLemmas
 mod GatheredLemmas
 mod ReadsLemmas
+mod StatementExamples

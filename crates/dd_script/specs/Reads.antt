@@ -68,7 +68,7 @@ BeginUnknown (word w ∷ rest) = (k : Keyword) → w ≡ keyword_word k → ⊥
 BeginUnknown (number z ∷ rest) = ⊥
 BeginUnknown (mark b ∷ rest) = ⊥
 
--- some tokens that spell no statement, although none or a known one is begun
+-- there are tokens, no unknown statement is begun, and they spell none
 pub record HaveBadForm (ls : List Lexeme) : Type 0 where
   pub some : ls ≡ [] → ⊥
   pub known : BeginUnknown ls → ⊥

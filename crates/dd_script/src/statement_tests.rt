@@ -106,95 +106,127 @@ const STATEMENTS: [(&str, &str, &str); 38] = [
 
 /// The arguments of a task, each in one shape, and the accesses that they are.
 const ARGUMENTS: [(&str, &str, &str); 34] = [
-    ("a name", "A", " (Read A All All All)"),
-    ("rows and columns", "A[:,:]", " (Read A All All All)"),
-    ("one row", "A[3,:]", " (Read A One(3) All All)"),
+    ("a name", "task k A", "task k (Read A All All All)"),
+    (
+        "rows and columns",
+        "task k A[:,:]",
+        "task k (Read A All All All)",
+    ),
+    ("one row", "task k A[3,:]", "task k (Read A One(3) All All)"),
     (
         "a run of columns",
-        "A[:,-1:4]",
-        " (Read A All Run { first: -1, last: 4 } All)",
+        "task k A[:,-1:4]",
+        "task k (Read A All Run { first: -1, last: 4 } All)",
     ),
     (
         "steps",
-        "A[9:-2:1,1:0:1]",
-        " (Read A Steps { first: 9, step: -2, last: 1 } Steps { first: 1, step: 0, last: 1 } All)",
+        "task k A[9:-2:1,1:0:1]",
+        "task k (Read A Steps { first: 9, step: -2, last: 1 } Steps { first: 1, step: 0, last: 1 } All)",
     ),
-    ("read", "In(A)", " (Read A All All All)"),
-    ("written", "Out(A)", " (Write A All All All)"),
-    ("both", "InOut(A)", " (Both A All All All)"),
+    ("read", "task k In(A)", "task k (Read A All All All)"),
+    ("written", "task k Out(A)", "task k (Write A All All All)"),
+    ("both", "task k InOut(A)", "task k (Both A All All All)"),
     (
         "written rows",
-        "Out(A[1:2,:])",
-        " (Write A Run { first: 1, last: 2 } All All)",
+        "task k Out(A[1:2,:])",
+        "task k (Write A Run { first: 1, last: 2 } All All)",
     ),
-    ("the whole as a part", "all(A)", " (Read A All All All)"),
-    ("lower", "lower(A)", " (Read A All All Lower)"),
-    ("upper", "upper(A)", " (Read A All All Upper)"),
-    ("below", "unitlower(A)", " (Read A All All UnitLower)"),
-    ("above", "unitupper(A)", " (Read A All All UnitUpper)"),
-    ("diagonal", "diag(A[1,1])", " (Read A One(1) One(1) Diag)"),
+    (
+        "the whole as a part",
+        "task k all(A)",
+        "task k (Read A All All All)",
+    ),
+    ("lower", "task k lower(A)", "task k (Read A All All Lower)"),
+    ("upper", "task k upper(A)", "task k (Read A All All Upper)"),
+    (
+        "below",
+        "task k unitlower(A)",
+        "task k (Read A All All UnitLower)",
+    ),
+    (
+        "above",
+        "task k unitupper(A)",
+        "task k (Read A All All UnitUpper)",
+    ),
+    (
+        "diagonal",
+        "task k diag(A[1,1])",
+        "task k (Read A One(1) One(1) Diag)",
+    ),
     (
         "a part that is written",
-        "Out(lower(A))",
-        " (Write A All All Lower)",
+        "task k Out(lower(A))",
+        "task k (Write A All All Lower)",
     ),
     (
         "a part that is both",
-        "InOut(diag(A[:,:]))",
-        " (Both A All All Diag)",
+        "task k InOut(diag(A[:,:]))",
+        "task k (Both A All All Diag)",
     ),
-    ("a part that is read", "In(all(A))", " (Read A All All All)"),
+    (
+        "a part that is read",
+        "task k In(all(A))",
+        "task k (Read A All All All)",
+    ),
     (
         "one dependency",
-        "Deps(A, In(lower))",
-        " (Read A All All Lower)",
+        "task k Deps(A, In(lower))",
+        "task k (Read A All All Lower)",
     ),
     (
         "several dependencies",
-        "Deps(A[1:2,1:2], InOut(diag), In(upper), Out(unitlower))",
-        " (Both A Run { first: 1, last: 2 } Run { first: 1, last: 2 } Diag) (Read A Run { first: 1, last: 2 } Run { first: 1, last: 2 } Upper) (Write A Run { first: 1, last: 2 } Run { first: 1, last: 2 } UnitLower)",
+        "task k Deps(A[1:2,1:2], InOut(diag), In(upper), Out(unitlower))",
+        "task k (Both A Run { first: 1, last: 2 } Run { first: 1, last: 2 } Diag) (Read A Run { first: 1, last: 2 } Run { first: 1, last: 2 } Upper) (Write A Run { first: 1, last: 2 } Run { first: 1, last: 2 } UnitLower)",
     ),
     (
         "one after another",
-        "A In(B)C[1,1]Deps(D,In(all))Out(E)",
-        " (Read A All All All) (Read B All All All) (Read C One(1) One(1) All) (Read D All All All) (Write E All All All)",
+        "task k A In(B)C[1,1]Deps(D,In(all))Out(E)",
+        "task k (Read A All All All) (Read B All All All) (Read C One(1) One(1) All) (Read D All All All) (Write E All All All)",
     ),
     (
         "a name that is an access word",
-        "In(Out)",
-        " (Read Out All All All)",
+        "task k In(Out)",
+        "task k (Read Out All All All)",
     ),
     (
         "a name that is a part",
-        "lower",
-        " (Read lower All All All)",
+        "task k lower",
+        "task k (Read lower All All All)",
     ),
-    ("an unknown word", "Inn(A)", "UnknownPart"),
-    ("case counts", "in(A)", "UnknownPart"),
-    ("an access word inside", "In(Out(A))", "UnknownPart"),
-    ("a part outside", "lower(In(A))", "UnknownPart"),
-    ("no parts", "Deps(A)", "UnknownPart"),
-    ("dependencies of a part", "Deps(lower(A))", "UnknownPart"),
-    ("another word than Deps", "In(A, In(lower))", "UnknownPart"),
+    ("an unknown word", "task k Inn(A)", "UnknownPart"),
+    ("case counts", "task k in(A)", "UnknownPart"),
+    ("an access word inside", "task k In(Out(A))", "UnknownPart"),
+    ("a part outside", "task k lower(In(A))", "UnknownPart"),
+    ("no parts", "task k Deps(A)", "UnknownPart"),
+    (
+        "dependencies of a part",
+        "task k Deps(lower(A))",
+        "UnknownPart",
+    ),
+    (
+        "another word than Deps",
+        "task k In(A, In(lower))",
+        "UnknownPart",
+    ),
     (
         "an access word for a part",
-        "Deps(A, In(In))",
+        "task k Deps(A, In(In))",
         "UnknownPart",
     ),
     (
         "a part for an access word",
-        "Deps(A, In(all), lower(all))",
+        "task k Deps(A, In(all), lower(all))",
         "UnknownPart",
     ),
     (
         "an unknown word at the end",
-        "In(A) Out(B) inout(C)",
+        "task k In(A) Out(B) inout(C)",
         "UnknownPart",
     ),
-    ("a name for a number", "A[i,j]", "BadForm"),
+    ("a name for a number", "task k A[i,j]", "BadForm"),
 ];
 
-/// Lines that say nothing, each with the first kind that holds.
+/// Lines that say nothing, each with the first kind that holds, and beside some of them one that just says something.
 const FAULTS: [(&str, &str, &str); 48] = [
     ("no argument", "print", "BadForm"),
     ("a number for a name", "print 1", "BadForm"),
@@ -314,33 +346,48 @@ const FAULTS: [(&str, &str, &str); 48] = [
     ("moved of a name", "moved A", "BadForm"),
 ];
 
+/// One line with a comment behind each of its tokens in turn.
+const COMMENTS: [(&str, &str); 8] = [
+    ("# task copy Out(B) A", "nothing"),
+    ("task # copy Out(B) A", "BadForm"),
+    ("task copy # Out(B) A", "task copy"),
+    ("task copy Out# (B) A", "task copy (Read Out All All All)"),
+    ("task copy Out(#B) A", "BadForm"),
+    ("task copy Out(B#) A", "BadForm"),
+    ("task copy Out(B)# A", "task copy (Write B All All All)"),
+    (
+        "task copy Out(B) A#",
+        "task copy (Write B All All All) (Read A All All All)",
+    ),
+];
+
 /// Arguments that are no arguments.
 const NO_ARGUMENTS: [&str; 25] = [
-    "A[",
-    "A[]",
-    "A[1]",
-    "A[1,]",
-    "A[,1]",
-    "A[1,1",
-    "A[1,1,1]",
-    "A[1:,1]",
-    "A[:1,1]",
-    "A[1:2:,1]",
-    "A[1:2:3:4,1]",
-    "In()",
-    "In(A",
-    "In(A))",
-    "In(lower(A)",
-    "In(lower(A)))",
-    "In(lower())",
-    "In(a(b(A)))",
-    "Deps(A,)",
-    "Deps(A,In)",
-    "Deps(A,In())",
-    "Deps(A,In(lower),)",
-    "Deps(,In(lower))",
-    "Deps(A In(lower))",
-    "Deps(lower(A),In(all))",
+    "task k A[",
+    "task k A[]",
+    "task k A[1]",
+    "task k A[1,]",
+    "task k A[,1]",
+    "task k A[1,1",
+    "task k A[1,1,1]",
+    "task k A[1:,1]",
+    "task k A[:1,1]",
+    "task k A[1:2:,1]",
+    "task k A[1:2:3:4,1]",
+    "task k In()",
+    "task k In(A",
+    "task k In(A))",
+    "task k In(lower(A)",
+    "task k In(lower(A)))",
+    "task k In(lower())",
+    "task k In(a(b(A)))",
+    "task k Deps(A,)",
+    "task k Deps(A,In)",
+    "task k Deps(A,In())",
+    "task k Deps(A,In(lower),)",
+    "task k Deps(,In(lower))",
+    "task k Deps(A In(lower))",
+    "task k Deps(lower(A),In(all))",
 ];
 
 fn add_name(out: &mut String, name: &Name) -> Result<(), AllocError> {
@@ -454,36 +501,54 @@ fn said(rt: &impl Abort, alloc: Global, line: &[u8]) -> Result<String, AllocErro
     Ok(out)
 }
 
+/// Whether a line says that.
+fn says(rt: &impl Abort, alloc: Global, line: &str, wanted: &str) -> Result<bool, AllocError> {
+    let found = said(rt, alloc, line.as_bytes())?;
+    Ok(found.as_str() == wanted)
+}
+
+/// Fails where a line says anything else, or memory is short.
+fn must_say(rt: &impl Abort, alloc: Global, name: &str, line: &str, wanted: &str) {
+    let so = says(rt, alloc, line, wanted).unwrap_or(false);
+    assert!(rt; so, "{name}: {line}");
+}
+
 #[test]
-fn lines_say(rt: HostRuntime) -> Result<(), Fail> {
+fn statements(rt: HostRuntime) -> Result<(), Fail> {
     for (name, line, wanted) in STATEMENTS {
-        let found = said(&rt, rt.alloc(), line.as_bytes()).expect(&rt, "memory");
-        assert_eq!(rt; found.as_str(), wanted, "{name}");
-    }
-    for (name, line, wanted) in FAULTS {
-        let found = said(&rt, rt.alloc(), line.as_bytes()).expect(&rt, "memory");
-        assert_eq!(rt; found.as_str(), wanted, "{name}");
+        must_say(&rt, rt.alloc(), name, line, wanted);
     }
     Ok(())
 }
 
 #[test]
-fn arguments_say(rt: HostRuntime) -> Result<(), Fail> {
-    for (name, argument, wanted) in ARGUMENTS {
-        let mut line = String::new(rt.alloc());
-        write!(line, "task k {argument}").expect(&rt, "memory");
-        let found = said(&rt, rt.alloc(), line.as_bytes()).expect(&rt, "memory");
-        let found = found.as_str();
-        assert!(rt;
-            found == wanted || found.strip_prefix("task k") == Some(wanted),
-            "{name}"
-        );
+fn arguments(rt: HostRuntime) -> Result<(), Fail> {
+    for (name, line, wanted) in ARGUMENTS {
+        must_say(&rt, rt.alloc(), name, line, wanted);
     }
-    for argument in NO_ARGUMENTS {
-        let mut line = String::new(rt.alloc());
-        write!(line, "task k {argument}").expect(&rt, "memory");
-        let found = said(&rt, rt.alloc(), line.as_bytes()).expect(&rt, "memory");
-        assert_eq!(rt; found.as_str(), "BadForm", "{argument}");
+    Ok(())
+}
+
+#[test]
+fn faults(rt: HostRuntime) -> Result<(), Fail> {
+    for (name, line, wanted) in FAULTS {
+        must_say(&rt, rt.alloc(), name, line, wanted);
+    }
+    Ok(())
+}
+
+#[test]
+fn no_arguments(rt: HostRuntime) -> Result<(), Fail> {
+    for line in NO_ARGUMENTS {
+        must_say(&rt, rt.alloc(), "no argument", line, "BadForm");
+    }
+    Ok(())
+}
+
+#[test]
+fn comments(rt: HostRuntime) -> Result<(), Fail> {
+    for (line, wanted) in COMMENTS {
+        must_say(&rt, rt.alloc(), "a comment", line, wanted);
     }
     Ok(())
 }
