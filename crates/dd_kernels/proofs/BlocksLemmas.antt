@@ -6,6 +6,7 @@ use Rattle.std.specs.Int.{w64}
 use Rattle.std.proofs.lemmas.Int.{int_wrap-add_left}
 use Rattle.std.proofs.Math.IntN.{+ℤ_assoc, +ℤ_idr}
 use Rattle.std.proofs.lemmas.List.Edits.{length-between}
+use Rattle.std.proofs.Math.Seq.{take-add}
 use Rattle.std.proofs.lemmas.Slice.{take-put_mid, drop-put_mid}
 use borrow.Rule.Slice.PartMut.{put_mid}
 use Rattle.dd_kernels.specs.Lists.{wrapped, element, zip_with, tabulate, sum_below}
@@ -90,3 +91,13 @@ pub count_more : (k first : ℤ) (n m next w : ℕ) (xs ys : List ℤ) → n ≤
 count_more k first n m next w xs ys within is from written so_far =
     let long : length ys ≡ m = ap length written ∙ length_tabulate m (λ i. wrapped (first +ℤ pos i)) in
     take-put_mid n w xs ys next (omega (arith, long)) within ∙ count_parts k first n m next (take n xs) ys is from written so_far
+
+-- a block that is taken from another list: the front up to its end is that list's, and what is past it stays
+pub taken_block : (n next w : ℕ) (xs ys from old new : List ℤ) → n + 8 ≤ length xs → n + 8 ≤ length ys → next ≡ n + 8 → w ≡ 8 → new ≡ between n (n + 8) ys → (take n xs ≡ take n from) × (drop n xs ≡ drop n old) → drop n ys ≡ drop n from → (take next (put_mid n w xs new) ≡ take next from) × (drop next (put_mid n w xs new) ≡ drop next old)
+taken_block n next w xs ys from old new in_xs in_ys is width block so_far same =
+    let long : length new ≡ 8 = ap length block ∙ omega (arith, length-between ys n (n + 8) in_ys) in
+    let on : n + 8 - n ≡ 8 = omega arith in
+    let here : new ≡ take 8 (drop n from) = block ∙ ap2 (λ (k : ℕ) (l : List ℤ). take k l) on same in
+    let whole : take next from ≡ take n from ++ take 8 (drop n from) = ap (λ (m : ℕ). take m from) is ∙ take-add n 8 from in
+    let later : drop next xs ≡ drop next old = ap (λ (m : ℕ). drop m xs) is ∙ (sym (drop-drop 8 n xs) ∙ (ap (λ (l : List ℤ). drop 8 l) so_far.1 ∙ (drop-drop 8 n old ∙ ap (λ (m : ℕ). drop m old) (sym is)))) in
+    (take-put_mid n w xs new next (omega (arith, long)) (omega arith) ∙ (ap2 ◌++◌ so_far.0 here ∙ sym whole), drop-put_mid n w xs new next (omega arith) (omega arith) (long ∙ sym width) ∙ later)

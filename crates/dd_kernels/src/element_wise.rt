@@ -24,7 +24,7 @@ ghost use Rattle.dd_kernels.specs.Lists.{
   zip_with,
 };
 
-use crate::in_place::{combine, update};
+use crate::in_place::{combine, eight, put, update};
 
 /// Writes `k` into each element.
 pub fn fill(x: &mut [i64], k: i64)
@@ -92,13 +92,20 @@ pub fn copy(x: &mut [i64], y: &[i64])
     x.copy_from_slice(y);
 }
 
-/// Exchanges `x` and `y`.
+/// Exchanges `x` and `y`, by blocks of eight as `combine` does.
 pub fn swap(x: &mut [i64], y: &mut [i64])
     requires { length x.old ≡ length y.old }
     ensures first { x.new ≡ y.old }
     ensures second { y.new ≡ x.old }
 {
-    x.swap_with_slice(y);
+    let blocks = x.len() / 8;
+    for k in 0..blocks {
+        let first = eight(x, 8 * k);
+        let second = eight(y, 8 * k);
+        put(&mut x[8 * k..8 * k + 8], &second);
+        put(&mut y[8 * k..8 * k + 8], &first);
+    }
+    x[8 * blocks..].swap_with_slice(&mut y[8 * blocks..]);
 }
 
 /// Adds `y` to `x`.

@@ -55,9 +55,19 @@ fn combine_each<F: Fn(i64, i64) -> i64>(x: &mut [i64], y: &[i64], f: &F)
 }
 
 /// The eight elements from a place on.
-fn eight(y: &[i64], at: usize) -> [i64; 8]
+pub fn eight(y: &[i64], at: usize) -> [i64; 8]
     requires { at + 8 ≤ length y.now }
     ensures { result ≡ between at (at + 8) y.now }
 {
     *y[at..at + 8].as_array::<8>().unwrap()
+}
+
+/// Writes `y` into `x`, one place after another.
+pub fn put(x: &mut [i64], y: &[i64])
+    requires { length x.old ≡ length y.now }
+    ensures { x.new ≡ y.now }
+{
+    for (i, a) in x.iter_mut().enumerate() {
+        *a = y[i];
+    }
 }

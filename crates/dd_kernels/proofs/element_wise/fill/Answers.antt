@@ -1,4 +1,4 @@
-use Rattle.std.proofs.Common.{ℤ, ◌∙◌, rules}
+use Rattle.std.proofs.Common.{◌∙◌, rules}
 use Rattle.dd_kernels.proofs.BlocksLemmas.{map_to_one}
 use Rattle.dd_kernels.proofs.element_wise.fill.Goals as goal
 
