@@ -22,7 +22,7 @@ const LEAST: i64 = -9223372036854775808;
 
 const GREATEST: i64 = 9223372036854775807;
 
-const ROWS: [Two; 43] = [
+const ROWS: [Two; 44] = [
     (
         "trmv of order 0",
         Kernel::Trmv,
@@ -86,11 +86,18 @@ const ROWS: [Two; 43] = [
         (&[0, 0], &[LEAST, -1, GREATEST]),
     ),
     (
-        "trsv_unit takes the new element",
+        "trsv_unit of 1 1",
         Kernel::TrsvUnit,
         ((2, 1), (1, 1)),
         (&[1, 1], &[2]),
         (&[1, -1], &[2]),
+    ),
+    (
+        "trsv_unit takes the new elements",
+        Kernel::TrsvUnit,
+        ((3, 1), (3, 1)),
+        (&[1, 1, 1], &[2, 3, 4]),
+        (&[1, -1, 2], &[2, 3, 4]),
     ),
     (
         "trsv_unit of order 0",
