@@ -1,8 +1,9 @@
 //! Where bytes come from and where they go: sources and sinks that count their faults.
 //!
-//! A call that answers a fault says that the count of the object rose meanwhile, and where the object tells its bytes
-//! it says exactly which were taken or appended. So a program that reads or writes through these traits can say why
-//! it failed and what it left behind. For a file that is read in any order, these traits are the wrong ones.
+//! A call that answers a fault says that the count of the object rose meanwhile, and any other call that it stayed.
+//! Where the object tells its bytes, each call says exactly which were taken or appended. So a program that reads or
+//! writes through these traits can say why it failed and what it left behind. For a file that is read in any order,
+//! these traits are the wrong ones.
 //!
 //! ```text
 //! let text = read_all(rt.alloc(), &mut StdSource::new(rt.stdin()), 1 << 20)?;
