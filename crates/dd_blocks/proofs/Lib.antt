@@ -1,0 +1,4 @@
+pub mod PiecesLemmas
+pub mod GridLemmas
+pub mod SizesLemmas
+mod GridExamples
