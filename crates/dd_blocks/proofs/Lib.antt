@@ -1,4 +1,6 @@
 pub mod PiecesLemmas
 pub mod GridLemmas
 pub mod SizesLemmas
+pub mod HomesLemmas
 mod GridExamples
+mod HomesExamples

@@ -1,0 +1,34 @@
+-- The home of a block, a space, as the statements of a script move it.
+use Rattle.std.specs.Prelude.{ℕ, zero, suc, ◌-◌, nat_eq, cond, List, Option, None, Some, take, slice_index_or, unwrap_or}
+use Rattle.std.specs.List.{filter_map, last_or}
+use Rattle.dd_blocks.specs.declared.block_row.BlockRow.{BlockRow}
+use Rattle.dd_blocks.specs.declared.plan.Plan.{Plan}
+use Rattle.dd_blocks.specs.declared.statement_row.StatementRow.{StatementRow}
+use Rattle.dd_blocks.specs.declared.what.What.{What}
+use Rattle.dd_blocks.specs.declared.what.What.TheVariants.{MoveTo}
+
+-- the row with a number, from 1, or the one that stands for no row
+abbrev pub numbered : {Row : Type 0} → Row → List Row → ℕ → Row
+numbered none rows zero = none
+numbered none rows (suc n) = slice_index_or rows n none
+
+-- a block's row
+abbrev pub block_row : Plan → ℕ → BlockRow
+block_row plan n = numbered (record { array = 0; home = 0; size = 0 }) plan.blocks n
+
+-- the space to which a statement moves an array
+abbrev pub space_moved_to : ℕ → What → Option ℕ
+space_moved_to moved (MoveTo array space) = cond (nat_eq array moved) (Some space) None
+space_moved_to moved _ = None
+
+-- the spaces to which some rows move an array, in their order
+abbrev pub spaces_of : ℕ → List StatementRow → List ℕ
+spaces_of moved rows = filter_map (λ (row : StatementRow). space_moved_to moved row.what) rows
+
+-- the last of these, or else the home before the rows
+abbrev pub home_after : ℕ → ℕ → List StatementRow → ℕ
+home_after moved before rows = unwrap_or (last_or None (spaces_of moved rows)) before
+
+-- the home of a block when a row begins, by the rows above it
+abbrev pub home_before : Plan → ℕ → ℕ → ℕ
+home_before plan row block = home_after (block_row plan block).array (block_row plan block).home (take (row - 1) plan.statements)
