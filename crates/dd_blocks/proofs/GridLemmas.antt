@@ -1,5 +1,5 @@
 -- Positions, blocks and places of a grid.
-use Rattle.std.proofs.Common.{◌≡◌, ℕ, ◌+◌, ◌*◌, ◌/◌, ◌%◌, ◌^◌, ◌<◌, ◌≤◌, ap, ◌∙◌, arith}
+use Rattle.std.proofs.Common.{◌≡◌, ℕ, ◌+◌, ◌*◌, ◌/◌, ◌%◌, ◌^◌, ◌<◌, ◌≤◌, sym, ap, ◌∙◌, arith}
 use Rattle.std.proofs.lemmas.Nat.{mul-le, mul-add-lt, div-add-mod', div-mul-add, mod-mul-add, mod_below, div_below}
 use Rattle.dd_blocks.specs.declared.grid.Grid.{Grid}
 use Rattle.dd_blocks.specs.Grids.{IsGrid, element_count, piece_len, block_rows, block_cols, block_count, row_of, col_of, row_of_block, col_of_block, block_height, block_width, block_size, block_of, place_in_block, pos_of}
@@ -30,6 +30,13 @@ row_of_its_block g pos grid = mod-mul-add (col_of g pos / g.bcols) (block_rows g
 
 col_of_its_block : (g : Grid) (pos : ℕ) → IsGrid g → col_of_block g (block_of g pos) ≡ col_of g pos / g.bcols
 col_of_its_block g pos grid = div-mul-add (col_of g pos / g.bcols) (block_rows g) (row_of g pos / g.brows) (above_within g pos grid)
+
+-- the block's height
+pub height_at : (g : Grid) (pos : ℕ) → IsGrid g → piece_len g.rows g.brows (row_of g pos / g.brows) ≡ block_height g (block_of g pos)
+height_at g pos grid = ap (piece_len g.rows g.brows) (sym (row_of_its_block g pos grid))
+
+pub begins_above : (g : Grid) (pos : ℕ) → IsGrid g → row_of g pos / g.brows * g.brows < g.rows
+begins_above g pos grid = begins_within g.rows g.brows (row_of g pos / g.brows) grid.brows (above_within g pos grid)
 
 -- and its row and its column in the block
 below_height : (g : Grid) (pos : ℕ) → IsGrid g → row_of g pos % g.brows < block_height g (block_of g pos)

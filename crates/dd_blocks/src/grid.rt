@@ -47,11 +47,12 @@ impl Grid {
         ensures within { result < block_size self.now (block_of self.now pos) }
         ensures back { pos_of self.now (block_of self.now pos) result ≡ pos }
     {
-        let height = self.height(self.block_of(pos));
         let rows = u64::from(self.rows);
-        let row = pos % rows % u64::from(self.brows);
+        let brows = u64::from(self.brows);
+        let row = pos % rows;
+        let height = piece_len(self.rows, self.brows, row / brows);
         let col = pos / rows % u64::from(self.bcols);
-        col * height + row
+        col * height + row % brows
     }
 
     /// The position of a place in a block.
