@@ -1,0 +1,3 @@
+pub mod CongruenceLemmas
+pub mod RunLemmas
+pub mod SharedLemmas

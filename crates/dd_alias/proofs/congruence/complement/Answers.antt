@@ -1,0 +1,8 @@
+use Rattle.dd_alias.proofs.CongruenceLemmas.{completes_multiple, completes_rest}
+use Rattle.dd_alias.proofs.congruence.complement.Goals as goal
+
+pub returns-then-rest-eq0-clause-exact : goal.returns-then-rest-eq0-clause-exact
+returns-then-rest-eq0-clause-exact c = λ x. completes_multiple c.args.number c.args.step x c.requires c.if-rest-eq0.true
+
+pub returns-else-rest-eq0-clause-exact : goal.returns-else-rest-eq0-clause-exact
+returns-else-rest-eq0-clause-exact c = λ x. completes_rest c.args.number c.args.step x c.requires c.if-rest-eq0.false

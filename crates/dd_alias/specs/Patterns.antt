@@ -1,0 +1,35 @@
+-- The elements of a view by the numbers of their row and column.
+use Rattle.std.specs.Prelude.{◌≡◌, ◌≢◌, ℕ, true}
+use Rattle.dd_views.specs.declared.part.Part.{Part}
+use Rattle.dd_views.specs.declared.part.Part.TheVariants.{All}
+use Rattle.dd_views.specs.declared.view.View.{View}
+use Rattle.dd_views.specs.IndexList.{keeps}
+use Rattle.dd_views.specs.Span.{IsSmallSpan}
+use Rattle.dd_alias.specs.declared.pattern.Pattern.{Pattern}
+use Rattle.dd_alias.specs.Places.{IsAt}
+
+-- what holds of the rows, the columns and the part of each view
+pub record IsPattern (p : Pattern) : Type 0 where
+  pub rows : IsSmallSpan p.rows
+  pub cols : IsSmallSpan p.cols
+  pub square : p.part ≢ All → p.rows.count ≡ p.cols.count
+
+-- the pattern of a view
+pub record IsPatternOf (v : View) (p : Pattern) : Type 0 where
+  pub rows : p.rows ≡ v.rows
+  pub cols : p.cols ≡ v.cols
+  pub part : p.part ≡ v.part
+
+-- the element of the row number r and the column number c is at the places i and j, and is kept
+pub record IsKeptAt (p : Pattern) (r c i j : ℕ) : Type 0 where
+  pub row : IsAt p.rows r i
+  pub col : IsAt p.cols c j
+  pub kept : keeps p.part i j ≡ true
+
+-- the pattern has the element of the row number r and the column number c
+abbrev pub HasElement : Pattern → ℕ → ℕ → Type 0
+HasElement p r c = (i : ℕ) × (j : ℕ) × IsKeptAt p r c i j
+
+-- both patterns have an element
+abbrev pub Meets : Pattern → Pattern → Type 0
+Meets a b = (r : ℕ) × (c : ℕ) × HasElement a r c × HasElement b r c

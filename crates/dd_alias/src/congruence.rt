@@ -1,0 +1,50 @@
+//! Least solutions of congruences.
+ghost use Rattle.std.specs.Prelude.{◌≡◌, ℕ, ◌+◌, ◌*◌, ◌^◌, ◌<◌, ◌↔◌, MatchOption};
+ghost use Rattle.dd_alias.specs.Congruence.{HasNoCommon, IsFar, IsLeast, IsLeastCommon, IsMultiple, IsOnWay};
+
+/// The least number that makes a multiple of `step` of `number`, when it is added.
+pub fn complement(number: u64, step: u64) -> u64
+    requires { 0 < step }
+    ensures small { result < step }
+    ensures exact { (x : ℕ) → IsMultiple step (number + x) ↔ IsOnWay result step x }
+{
+    let rest = number % step;
+    if rest == 0 { 0 } else { step - rest }
+}
+
+/// How many strides from 0 lead to `start`, or some times `step` beyond it, for the first time.
+///
+/// Strides that lead to `start + n * step` are one question, and steps that lead from there back to a multiple
+/// of the stride are the same question with smaller numbers.
+pub fn least_turns(stride: u64, start: u64, step: u64) -> Option<u64>
+    ensures { MatchOption result (IsFar stride start step) (IsLeast stride start step) }
+{
+    if start == 0 {
+        return Some(0);
+    }
+    if stride == 0 {
+        return None;
+    }
+    let Some(steps) = least_turns(step % stride, complement(start, stride), stride) else {
+        return None;
+    };
+    let Some(beyond) = steps.checked_mul(step) else {
+        return None;
+    };
+    let Some(way) = beyond.checked_add(start) else {
+        return None;
+    };
+    Some(way / stride)
+}
+
+/// The least common multiple of two numbers, where it fits.
+pub fn least_common(a: u64, b: u64) -> Option<u64>
+    requires a { 0 < a }
+    requires b { 0 < b }
+    ensures { MatchOption result (HasNoCommon a b) (IsLeastCommon a b) }
+{
+    let Some(turns) = least_turns(a, complement(a, b), b) else {
+        return None;
+    };
+    (turns * a).checked_add(a)
+}

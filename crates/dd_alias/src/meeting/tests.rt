@@ -1,0 +1,228 @@
+//! Overlaps at values from outside, and against the lists of a family of small views.
+ghost use Rattle.std.specs.Prelude.{◌≡◌, ◌<◌, ◌^◌, ◌*◌, ◌×◌, IfSome};
+ghost use Rattle.dd_views.specs.Views.{IsView};
+
+use crate::overlap;
+use dd_views::{Part, Range, Shape, View, view_of};
+use std::process::Abort;
+use std::test::Fail;
+
+/// Rows and columns.
+type Size = (u32, u32);
+
+/// The first of a range, its step and its last.
+type Steps = (i64, i64, i64);
+
+/// The rows, the columns and the part of a view.
+type Piece = (Steps, Steps, Part);
+
+/// A name, the size of an array, two views of it and whether they overlap.
+type Row = (&'static str, Size, Piece, Piece, bool);
+
+const ROWS: [Row; 12] = [
+    (
+        "the lower triangle and what is above the diagonal",
+        (3, 3),
+        ((1, 1, 3), (1, 1, 3), Part::Lower),
+        ((1, 1, 3), (1, 1, 3), Part::UnitUpper),
+        false,
+    ),
+    (
+        "the lower and the upper triangle",
+        (3, 3),
+        ((1, 1, 3), (1, 1, 3), Part::Lower),
+        ((1, 1, 3), (1, 1, 3), Part::Upper),
+        true,
+    ),
+    (
+        "every third from 1 and every second from 2",
+        (1, 8),
+        ((1, 1, 1), (1, 3, 7), Part::All),
+        ((1, 1, 1), (2, 2, 8), Part::All),
+        true,
+    ),
+    (
+        "the odd and the even",
+        (1, 8),
+        ((1, 1, 1), (1, 2, 7), Part::All),
+        ((1, 1, 1), (2, 2, 8), Part::All),
+        false,
+    ),
+    (
+        "the odd down and every third down",
+        (8, 1),
+        ((7, -2, 1), (1, 1, 1), Part::All),
+        ((8, -3, 2), (1, 1, 1), Part::All),
+        true,
+    ),
+    (
+        "one number in common, behind the end of one",
+        (16, 1),
+        ((1, 4, 9), (1, 1, 1), Part::All),
+        ((13, -6, 1), (1, 1, 1), Part::All),
+        true,
+    ),
+    (
+        "numbers that meet only behind the end",
+        (20, 1),
+        ((1, 4, 9), (1, 1, 1), Part::All),
+        ((3, 5, 8), (1, 1, 1), Part::All),
+        false,
+    ),
+    (
+        "rows apart",
+        (4, 4),
+        ((1, 1, 2), (1, 1, 4), Part::All),
+        ((3, 1, 4), (1, 1, 4), Part::All),
+        false,
+    ),
+    (
+        "columns apart",
+        (4, 4),
+        ((1, 1, 4), (1, 1, 2), Part::All),
+        ((1, 1, 4), (3, 1, 4), Part::All),
+        false,
+    ),
+    (
+        "nothing in the rows",
+        (4, 4),
+        ((2, 1, 1), (1, 1, 4), Part::All),
+        ((1, 1, 4), (1, 1, 4), Part::All),
+        false,
+    ),
+    (
+        "a diagonal and the diagonal of a view one column on",
+        (4, 4),
+        ((1, 1, 4), (1, 1, 4), Part::Diag),
+        (
+            (1, 1, 3),
+            (2, 1, 4),
+            Part::Diag,
+        ),
+        false,
+    ),
+    (
+        "a diagonal and one that crosses it",
+        (3, 3),
+        ((1, 1, 3), (1, 1, 3), Part::Diag),
+        ((3, -1, 1), (1, 1, 3), Part::Diag),
+        true,
+    ),
+];
+
+const PARTS: [Part; 6] = [
+    Part::All,
+    Part::Lower,
+    Part::Upper,
+    Part::UnitLower,
+    Part::UnitUpper,
+    Part::Diag,
+];
+
+const STEPS: [i64; 6] = [1, 2, 3, -1, -2, -3];
+
+fn steps(range: Steps) -> Range {
+    let (first, step, last) = range;
+    Range::Steps { first, step, last }
+}
+
+#[test]
+fn views_overlap(rt: HostRuntime) -> Result<(), Fail> {
+    for row in &ROWS {
+        check_row(&rt, row);
+    }
+    Ok(())
+}
+
+fn check_row(rt: &impl Abort, row: &Row) {
+    let (name, size, one, other, wanted) = *row;
+    match (small_view(1, size, one), small_view(1, size, other)) {
+        (Some(a), Some(b)) => {
+            assert!(rt; a.height == b.height);
+            assert_eq!(rt; overlap(&a, &b), wanted, "{name}");
+            assert_eq!(rt; overlap(&b, &a), wanted, "{name}, the other way");
+        }
+        _ => assert!(rt; false, "{name}"),
+    }
+}
+
+fn small_view(array: u32, size: Size, piece: Piece) -> Option<View>
+    ensures { IfSome result IsView }
+{
+    if size.0 < 100 && size.1 < 100 {
+        let shape = Shape {
+            rows: size.0,
+            cols: size.1,
+        };
+        view_of(array, shape, steps(piece.0), steps(piece.1), piece.2).ok()
+    } else {
+        None
+    }
+}
+
+/// Some views of a 4 by 5 array against some others: those that are had of all ranges and parts by going on by
+/// a prime.
+#[test]
+fn overlaps_are_those_of_the_lists(rt: HostRuntime) -> Result<(), Fail> {
+    for i in 0..300 {
+        for k in 0..400 {
+            check_pair(&rt, i * 283, k * 211);
+        }
+    }
+    Ok(())
+}
+
+#[test]
+fn views_of_two_arrays_do_not_overlap(rt: HostRuntime) -> Result<(), Fail> {
+    let whole = ((1, 1, 4), (1, 1, 5), Part::All);
+    match (small_view(1, (4, 5), whole), small_view(2, (4, 5), whole)) {
+        (Some(a), Some(b)) => {
+            assert!(rt; a.height == b.height);
+            assert!(rt; overlap(&a, &a));
+            assert!(rt; !overlap(&a, &b));
+        }
+        _ => assert!(rt; false),
+    }
+    Ok(())
+}
+
+fn check_pair(rt: &impl Abort, one: u32, other: u32) {
+    if let (Some(a), Some(b)) = (
+        small_view(1, (4, 5), piece(one)),
+        small_view(1, (4, 5), piece(other)),
+    ) {
+        assert!(rt; a.height == b.height);
+        assert_eq!(rt; overlap(&a, &b), share(&a, &b), "{a:?} {b:?}");
+    }
+}
+
+/// A view of a 4 by 5 array by a number: its part, its rows and its columns.
+fn piece(number: u32) -> Piece {
+    let part = PARTS[(number % 6) as usize];
+    let rows = range(number / 6 % 96, 4);
+    let cols = range(number / 576 % 150, 5);
+    (rows, cols, part)
+}
+
+/// A range by a number: its first, its last and its step.
+fn range(number: u32, length: u32) -> Steps
+    requires { 0 < length }
+{
+    (
+        i64::from(number % length) + 1,
+        STEPS[(number / length / length % 6) as usize],
+        i64::from(number / length % length) + 1,
+    )
+}
+
+fn share(a: &View, b: &View) -> bool
+    requires a { IsView a.now }
+    requires b { IsView b.now }
+{
+    for position in 0..20 {
+        if a.has(position) && b.has(position) {
+            return true;
+        }
+    }
+    false
+}

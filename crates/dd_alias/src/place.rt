@@ -1,0 +1,61 @@
+//! The numbers of a span and their places, from 1.
+ghost use Rattle.std.specs.Prelude.{◌≡◌, ℕ, ◌+◌, ◌*◌, ◌^◌, ◌<◌, ◌≤◌, ◌↔◌};
+ghost use Rattle.dd_views.specs.IndexList.{number_at_place};
+ghost use Rattle.dd_views.specs.Span.{IsSmallSpan};
+ghost use Rattle.dd_alias.specs.Places.{IsAt, IsIn};
+ghost use Rattle.dd_alias.specs.Runs.{HasNumber};
+
+use crate::run::Run;
+use dd_views::Span3;
+
+/// The numbers of a span, rising.
+pub fn run_of(span: &Span3) -> Run
+    requires { IsSmallSpan span.now }
+    ensures { (x : ℕ) → HasNumber result x ↔ IsIn span.now x }
+{
+    let first = u64::from(span.first);
+    let stride = span.step.unsigned_abs();
+    if span.count == 0 {
+        return Run::none_from(1);
+    }
+    let way = (u64::from(span.count) - 1) * stride;
+    if span.step > 0 {
+        Run {
+            first,
+            stride,
+            limit: first + way,
+        }
+    } else {
+        Run {
+            first: first - way,
+            stride,
+            limit: first,
+        }
+    }
+}
+
+/// The number at a place.
+pub fn number_at(span: &Span3, place: u64) -> u64
+    requires span { IsSmallSpan span.now }
+    requires low { 1 ≤ place }
+    requires high { place ≤ span.now.count }
+    ensures { result ≡ number_at_place span.now place }
+{
+    let first = u64::from(span.first);
+    let way = (place - 1) * span.step.unsigned_abs();
+    if span.step > 0 {
+        first + way
+    } else {
+        first - way
+    }
+}
+
+/// The place of a number of the span.
+pub fn place_of(span: &Span3, number: u64) -> u64
+    requires span { IsSmallSpan span.now }
+    requires there { IsIn span.now number }
+    ensures at { IsAt span.now number result }
+    ensures only { (i : ℕ) → IsAt span.now number i → i ≡ result }
+{
+    u64::from(span.first).abs_diff(number) / span.step.unsigned_abs() + 1
+}
