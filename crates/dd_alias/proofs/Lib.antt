@@ -1,3 +1,4 @@
 pub mod CongruenceLemmas
 pub mod RunLemmas
 pub mod SharedLemmas
+pub mod PlaceLemmas

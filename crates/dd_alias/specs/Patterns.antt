@@ -1,12 +1,15 @@
 -- The elements of a view by the numbers of their row and column.
-use Rattle.std.specs.Prelude.{◌≡◌, ◌≢◌, ℕ, true}
+use Rattle.std.specs.Prelude.{◌≡◌, ◌≢◌, ◌↔◌, ℕ, true}
 use Rattle.dd_views.specs.declared.part.Part.{Part}
 use Rattle.dd_views.specs.declared.part.Part.TheVariants.{All}
+use Rattle.dd_views.specs.declared.span3.Span3.{Span3}
 use Rattle.dd_views.specs.declared.view.View.{View}
 use Rattle.dd_views.specs.IndexList.{keeps}
 use Rattle.dd_views.specs.Span.{IsSmallSpan}
 use Rattle.dd_alias.specs.declared.pattern.Pattern.{Pattern}
-use Rattle.dd_alias.specs.Places.{IsAt}
+use Rattle.dd_alias.specs.declared.run.Run.{Run}
+use Rattle.dd_alias.specs.Places.{IsAt, IsIn}
+use Rattle.dd_alias.specs.Runs.{HasNumber}
 
 -- what holds of the rows, the columns and the part of each view
 pub record IsPattern (p : Pattern) : Type 0 where
@@ -14,11 +17,8 @@ pub record IsPattern (p : Pattern) : Type 0 where
   pub cols : IsSmallSpan p.cols
   pub square : p.part ≢ All → p.rows.count ≡ p.cols.count
 
--- the pattern of a view
-pub record IsPatternOf (v : View) (p : Pattern) : Type 0 where
-  pub rows : p.rows ≡ v.rows
-  pub cols : p.cols ≡ v.cols
-  pub part : p.part ≡ v.part
+abbrev pub pattern_of : View → Pattern
+pattern_of v = record { rows = v.rows; cols = v.cols; part = v.part }
 
 -- the element of the row number r and the column number c is at the places i and j, and is kept
 pub record IsKeptAt (p : Pattern) (r c i j : ℕ) : Type 0 where
@@ -30,6 +30,14 @@ pub record IsKeptAt (p : Pattern) (r c i j : ℕ) : Type 0 where
 abbrev pub HasElement : Pattern → ℕ → ℕ → Type 0
 HasElement p r c = (i : ℕ) × (j : ℕ) × IsKeptAt p r c i j
 
+-- the run has the numbers that both spans have, and no other
+abbrev pub AreCommon : Span3 → Span3 → Run → Type 0
+AreCommon a b run = (x : ℕ) → HasNumber run x ↔ (IsIn a x × IsIn b x)
+
+-- both patterns have an element in the column
+abbrev pub MeetsIn : Pattern → Pattern → ℕ → Type 0
+MeetsIn a b c = (r : ℕ) × HasElement a r c × HasElement b r c
+
 -- both patterns have an element
 abbrev pub Meets : Pattern → Pattern → Type 0
-Meets a b = (r : ℕ) × (c : ℕ) × HasElement a r c × HasElement b r c
+Meets a b = (c : ℕ) × MeetsIn a b c

@@ -1,10 +1,9 @@
 //! Whether two views share an element.
-ghost use Rattle.std.specs.Prelude.{◌≡◌, ℕ, ◌+◌, ◌*◌, ◌<◌, ◌↔◌, IsTrue};
+ghost use Rattle.std.specs.Prelude.{◌≡◌, ◌↔◌, IsTrue};
 ghost use Rattle.dd_views.specs.Views.{IsView};
 ghost use Rattle.dd_alias.specs.Overlap.{Overlaps};
-ghost use Rattle.dd_alias.specs.Patterns.{HasElement, IsPattern, Meets};
+ghost use Rattle.dd_alias.specs.Patterns.{AreCommon, IsPattern, Meets, MeetsIn};
 ghost use Rattle.dd_alias.specs.Places.{IsIn};
-ghost use Rattle.dd_alias.specs.Runs.{HasNumber};
 
 use crate::pattern::Pattern;
 use crate::place::run_of;
@@ -19,7 +18,10 @@ pub fn overlap(a: &View, b: &View) -> bool
     requires height { a.now.array ≡ b.now.array → a.now.height ≡ b.now.height }
     ensures { IsTrue result ↔ Overlaps a.now b.now }
 {
-    a.array == b.array && meet(&Pattern::of(a), &Pattern::of(b))
+    if a.array != b.array || a.height == 0 {
+        return false;
+    }
+    meet(&Pattern::of(a), &Pattern::of(b))
 }
 
 /// Whether both patterns have an element.
@@ -29,29 +31,42 @@ fn meet(a: &Pattern, b: &Pattern) -> bool
     ensures { IsTrue result ↔ Meets a.now b.now }
 {
     let (rows_of_a, rows_of_b) = (run_of(&a.rows), run_of(&b.rows));
+    if are_apart(&rows_of_a, &rows_of_b) {
+        return false;
+    }
     let (cols_of_a, cols_of_b) = (run_of(&a.cols), run_of(&b.cols));
-    if are_apart(&rows_of_a, &rows_of_b) || are_apart(&cols_of_a, &cols_of_b) {
+    if are_apart(&cols_of_a, &cols_of_b) {
         return false;
     }
     let rows = common(&rows_of_a, &rows_of_b);
     let cols = common(&cols_of_a, &cols_of_b);
+    meet_along_fewer(a, b, &rows, &cols)
+}
+
+/// Whether both patterns have an element, by their common rows and columns.
+fn meet_along_fewer(a: &Pattern, b: &Pattern, rows: &Run, cols: &Run) -> bool
+    requires a { IsPattern a.now }
+    requires b { IsPattern b.now }
+    requires rows { AreCommon a.now.rows b.now.rows rows.now }
+    requires cols { AreCommon a.now.cols b.now.cols cols.now }
+    ensures { IsTrue result ↔ Meets a.now b.now }
+{
     if rows.count() < cols.count() {
-        meet_in_some(&a.flipped(), &b.flipped(), &cols, &rows)
-    } else {
-        meet_in_some(a, b, &rows, &cols)
+        return meet_in_some(&a.flipped(), &b.flipped(), cols, rows);
     }
+    meet_in_some(a, b, rows, cols)
 }
 
 /// Whether both patterns have an element in some common column, by their common rows and columns.
 fn meet_in_some(a: &Pattern, b: &Pattern, rows: &Run, cols: &Run) -> bool
     requires a { IsPattern a.now }
     requires b { IsPattern b.now }
-    requires rows { (x : ℕ) → HasNumber rows.now x ↔ (IsIn a.now.rows x × IsIn b.now.rows x) }
-    requires cols { (x : ℕ) → HasNumber cols.now x ↔ (IsIn a.now.cols x × IsIn b.now.cols x) }
+    requires rows { AreCommon a.now.rows b.now.rows rows.now }
+    requires cols { AreCommon a.now.cols b.now.cols cols.now }
     ensures { IsTrue result ↔ Meets a.now b.now }
 {
     for turn in 0..cols.count() {
-        if meet_in(a, b, rows, cols.first + turn * cols.stride) {
+        if meet_in(a, b, rows, cols.number(turn)) {
             return true;
         }
     }
@@ -62,10 +77,10 @@ fn meet_in_some(a: &Pattern, b: &Pattern, rows: &Run, cols: &Run) -> bool
 fn meet_in(a: &Pattern, b: &Pattern, rows: &Run, col: u64) -> bool
     requires a { IsPattern a.now }
     requires b { IsPattern b.now }
-    requires rows { (x : ℕ) → HasNumber rows.now x ↔ (IsIn a.now.rows x × IsIn b.now.rows x) }
+    requires rows { AreCommon a.now.rows b.now.rows rows.now }
     requires col_of_a { IsIn a.now.cols col }
     requires col_of_b { IsIn b.now.cols col }
-    ensures { IsTrue result ↔ ((r : ℕ) × HasElement a.now r col × HasElement b.now r col) }
+    ensures { IsTrue result ↔ MeetsIn a.now b.now col }
 {
     let of_a = a.rows_in(col);
     let of_b = b.rows_in(col);

@@ -1,5 +1,6 @@
-ghost use Rattle.std.specs.Prelude.{◌≡◌, ◌≢◌, ℕ, ◌≤◌, ◌↔◌, true};
+ghost use Rattle.std.specs.Prelude.{◌≡◌, ℕ, ◌↔◌};
 
+use crate::columns::{flip, kept_places};
 use crate::interval::Interval;
 use crate::place::{number_at, place_of};
 use dd_views::{Part, Span3, View};
@@ -13,11 +14,11 @@ pub struct Pattern {
 }
 
 impl Pattern {
-    ghost use Rattle.dd_alias.specs.Patterns.{HasElement, IsPattern, IsPatternOf};
+    ghost use Rattle.dd_alias.specs.Patterns.{HasElement, IsPattern, pattern_of};
     ghost use Rattle.dd_alias.specs.Places.{IsBetween, IsIn};
 
     pub fn of(view: &View) -> Pattern
-        ensures { IsPatternOf view.now result }
+        ensures { result ≡ pattern_of view.now }
     {
         Pattern {
             rows: view.rows,
@@ -58,42 +59,4 @@ impl Pattern {
             high: one.max(other),
         }
     }
-}
-
-ghost use Rattle.dd_views.specs.IndexList.{keeps};
-ghost use Rattle.dd_alias.specs.Places.{IsBetween};
-
-/// The part that keeps at row j and column i what the given one keeps at row i and column j.
-fn flip(part: Part) -> Part
-    ensures all { (result ≡ Part.All) ↔ (part ≡ Part.All) }
-    ensures keeps { (i : ℕ) → (j : ℕ) → keeps result i j ≡ keeps part j i }
-{
-    match part {
-        Part::All => Part::All,
-        Part::Lower => Part::Upper,
-        Part::Upper => Part::Lower,
-        Part::UnitLower => Part::UnitUpper,
-        Part::UnitUpper => Part::UnitLower,
-        Part::Diag => Part::Diag,
-    }
-}
-
-/// Between which places the rows stand that the column at a place keeps, of so many rows.
-fn kept_places(part: Part, col: u64, rows: u32) -> Interval
-    requires low { 1 ≤ col }
-    requires high { part ≢ Part.All → col ≤ rows }
-    ensures low { 1 ≤ result.low }
-    ensures high { result.high ≤ rows }
-    ensures exact { (i : ℕ) → 1 ≤ i → i ≤ rows → (keeps part i col ≡ true) ↔ IsBetween result i }
-{
-    let last = u64::from(rows);
-    let (low, high) = match part {
-        Part::All => (1, last),
-        Part::Lower => (col, last),
-        Part::Upper => (1, col),
-        Part::UnitLower => (col + 1, last),
-        Part::UnitUpper => (1, col - 1),
-        Part::Diag => (col, col),
-    };
-    Interval { low, high }
 }

@@ -1,5 +1,5 @@
 //! The numbers of a span and their places, from 1.
-ghost use Rattle.std.specs.Prelude.{◌≡◌, ℕ, ◌+◌, ◌*◌, ◌^◌, ◌<◌, ◌≤◌, ◌↔◌};
+ghost use Rattle.std.specs.Prelude.{◌≡◌, ℕ, ◌+◌, ◌*◌, ◌^◌, ◌<◌, ◌≤◌, ◌↔◌, unsigned_abs};
 ghost use Rattle.dd_views.specs.IndexList.{number_at_place};
 ghost use Rattle.dd_views.specs.Span.{IsSmallSpan};
 ghost use Rattle.dd_alias.specs.Places.{IsAt, IsIn};
@@ -14,23 +14,22 @@ pub fn run_of(span: &Span3) -> Run
     ensures { (x : ℕ) → HasNumber result x ↔ IsIn span.now x }
 {
     let first = u64::from(span.first);
-    let stride = span.step.unsigned_abs();
+    let stride = stride(span);
     if span.count == 0 {
         return Run::none_from(1);
     }
     let way = (u64::from(span.count) - 1) * stride;
     if span.step > 0 {
-        Run {
+        return Run {
             first,
             stride,
             limit: first + way,
-        }
-    } else {
-        Run {
-            first: first - way,
-            stride,
-            limit: first,
-        }
+        };
+    }
+    Run {
+        first: first - way,
+        stride,
+        limit: first,
     }
 }
 
@@ -42,7 +41,7 @@ pub fn number_at(span: &Span3, place: u64) -> u64
     ensures { result ≡ number_at_place span.now place }
 {
     let first = u64::from(span.first);
-    let way = (place - 1) * span.step.unsigned_abs();
+    let way = (place - 1) * stride(span);
     if span.step > 0 {
         first + way
     } else {
@@ -57,5 +56,12 @@ pub fn place_of(span: &Span3, number: u64) -> u64
     ensures at { IsAt span.now number result }
     ensures only { (i : ℕ) → IsAt span.now number i → i ≡ result }
 {
-    u64::from(span.first).abs_diff(number) / span.step.unsigned_abs() + 1
+    u64::from(span.first).abs_diff(number) / stride(span) + 1
+}
+
+/// The size of the step.
+fn stride(span: &Span3) -> u64
+    ensures { result ≡ unsigned_abs span.now.step }
+{
+    span.step.unsigned_abs()
 }
