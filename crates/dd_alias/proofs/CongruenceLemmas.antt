@@ -19,8 +19,7 @@ less s a b above all first =
 
 pub completes_multiple : (number step x : ℕ) → 0 < step → number % step ≡ 0 → IsMultiple step (number + x) ↔ IsOnWay 0 step x
 completes_multiple number step x above whole =
-    let here : IsMultiple step number = (number / step, omega (arith, div-add-mod' number step)) in
-    (
+    let here : IsMultiple step number = (number / step, omega (arith, div-add-mod' number step)) in (
       (λ all. let rest = less step number x above all here in (rest.0, omega (arith, rest.1))),
       (λ way. more step number x here (way.0, omega (arith, way.1))),
     )
@@ -28,14 +27,13 @@ completes_multiple number step x above whole =
 pub completes_rest : (number step x : ℕ) → 0 < step → number % step ≢ 0 → IsMultiple step (number + x) ↔ IsOnWay (step - number % step) step x
 completes_rest number step x above some =
     let split = div-add-mod' number step in
-    let below = mod_below number step above in
-    (
+    let below = mod_below number step above in (
       (λ all.
-      let rest : IsMultiple step (number % step + x) = less step (number / step * step) (number % step + x) above (all.0, omega (arith, all.1, split)) (number / step, refl) in
-      let one : rest.0 ≢ 0 = λ none. some (let zero : rest.0 * step ≡ 0 * step = ap (λ (n : ℕ). n * step) none in omega (arith, zero, rest.1)) in
-      let same : rest.0 ≡ 1 + (rest.0 - 1) = omega arith in
-      let parts : rest.0 * step ≡ (1 + (rest.0 - 1)) * step = ap (λ (n : ℕ). n * step) same in
-      (rest.0 - 1, omega (arith, parts, rest.1))),
+          let rest : IsMultiple step (number % step + x) = less step (number / step * step) (number % step + x) above (all.0, omega (arith, all.1, split)) (number / step, refl) in
+          let one : rest.0 ≢ 0 = λ none. some (let zero : rest.0 * step ≡ 0 * step = ap (λ (n : ℕ). n * step) none in omega (arith, zero, rest.1)) in
+          let same : rest.0 ≡ 1 + (rest.0 - 1) = omega arith in
+          let parts : rest.0 * step ≡ (1 + (rest.0 - 1)) * step = ap (λ (n : ℕ). n * step) same in
+          (rest.0 - 1, omega (arith, parts, rest.1))),
       (λ way. (number / step + 1 + way.0, omega (arith, way.1, split))),
     )
 
@@ -43,8 +41,7 @@ completes_rest number step x above some =
 pub reduced : (s c q n : ℕ) → 0 < s → IsMultiple s (c + n * q) ↔ IsMultiple s (c + n * (q % s))
 reduced s c q n above =
     let split : n * q ≡ n * (q / s * s + q % s) = ap (λ (k : ℕ). n * k) (sym (div-add-mod' q s)) in
-    let whole : IsMultiple s (n * (q / s) * s) = (n * (q / s), refl) in
-    (
+    let whole : IsMultiple s (n * (q / s) * s) = (n * (q / s), refl) in (
       (λ all. less s (n * (q / s) * s) (c + n * (q % s)) above (all.0, omega (arith, all.1, split)) whole),
       (λ rest. let all = more s (n * (q / s) * s) (c + n * (q % s)) whole rest in (all.0, omega (arith, all.1, split))),
     )
@@ -138,14 +135,14 @@ least_common_of a b back turns above_a above_b completes least =
       of_a = (turns + 1, omega arith);
       of_b = (of_b.0, omega (arith, of_b.1));
       least = λ x is_a is_b.
-      let d = is_a.0 / (turns + 1) in
-      let r = is_a.0 % (turns + 1) in
-      let split : d * (turns + 1) + r ≡ is_a.0 = div-add-mod' is_a.0 (turns + 1) in
-      let parts : (d * (turns + 1) + r) * a ≡ is_a.0 * a = ap (λ (k : ℕ). k * a) split in
-      let rest : IsMultiple b (r * a) = less b (d * (turns * a + a)) (r * a) above_b (is_b.0, omega (arith, parts, is_a.1, is_b.1)) (d * of_b.0, omega (arith, ap (λ (k : ℕ). d * k) of_b.1)) in
-      let none : r ≡ 0 = no_rest a b back turns r completes least rest (mod_below is_a.0 (turns + 1) (omega arith)) in
-      let zero : r * a ≡ 0 * a = ap (λ (k : ℕ). k * a) none in
-      (d, omega (arith, parts, is_a.1, zero));
+          let d = is_a.0 / (turns + 1) in
+          let r = is_a.0 % (turns + 1) in
+          let split : d * (turns + 1) + r ≡ is_a.0 = div-add-mod' is_a.0 (turns + 1) in
+          let parts : (d * (turns + 1) + r) * a ≡ is_a.0 * a = ap (λ (k : ℕ). k * a) split in
+          let rest : IsMultiple b (r * a) = less b (d * (turns * a + a)) (r * a) above_b (is_b.0, omega (arith, parts, is_a.1, is_b.1)) (d * of_b.0, omega (arith, ap (λ (k : ℕ). d * k) of_b.1)) in
+          let none : r ≡ 0 = no_rest a b back turns r completes least rest (mod_below is_a.0 (turns + 1) (omega arith)) in
+          let zero : r * a ≡ 0 * a = ap (λ (k : ℕ). k * a) none in
+          (d, omega (arith, parts, is_a.1, zero));
     }
 
 pub common_of : (a b back turns : ℕ) (found : Option ℕ) → 0 < a → 0 < b → Completes b a back → IsLeast a back b turns → SomeIff found (turns * a + a < 2 ^ 64) (turns * a + a) → MatchOption found (HasNoCommon a b) (IsLeastCommon a b)

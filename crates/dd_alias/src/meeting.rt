@@ -18,10 +18,15 @@ pub fn overlap(a: &View, b: &View) -> bool
     requires height { a.now.array ≡ b.now.array → a.now.height ≡ b.now.height }
     ensures { IsTrue result ↔ Overlaps a.now b.now }
 {
-    if a.array != b.array || a.height == 0 {
+    if a.array != b.array {
         return false;
     }
-    meet(&Pattern::of(a), &Pattern::of(b))
+    if a.height == 0 {
+        return false;
+    }
+    let of_a = Pattern::of(a);
+    let of_b = Pattern::of(b);
+    meet(&of_a, &of_b)
 }
 
 /// Whether both patterns have an element.
@@ -30,11 +35,13 @@ fn meet(a: &Pattern, b: &Pattern) -> bool
     requires b { IsPattern b.now }
     ensures { IsTrue result ↔ Meets a.now b.now }
 {
-    let (rows_of_a, rows_of_b) = (run_of(&a.rows), run_of(&b.rows));
+    let rows_of_a = run_of(&a.rows);
+    let rows_of_b = run_of(&b.rows);
     if are_apart(&rows_of_a, &rows_of_b) {
         return false;
     }
-    let (cols_of_a, cols_of_b) = (run_of(&a.cols), run_of(&b.cols));
+    let cols_of_a = run_of(&a.cols);
+    let cols_of_b = run_of(&b.cols);
     if are_apart(&cols_of_a, &cols_of_b) {
         return false;
     }
@@ -52,7 +59,9 @@ fn meet_along_fewer(a: &Pattern, b: &Pattern, rows: &Run, cols: &Run) -> bool
     ensures { IsTrue result ↔ Meets a.now b.now }
 {
     if rows.count() < cols.count() {
-        return meet_in_some(&a.flipped(), &b.flipped(), cols, rows);
+        let flipped_a = a.flipped();
+        let flipped_b = b.flipped();
+        return meet_in_some(&flipped_a, &flipped_b, cols, rows);
     }
     meet_in_some(a, b, rows, cols)
 }

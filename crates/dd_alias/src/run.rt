@@ -56,7 +56,7 @@ impl Run {
 
     /// How many numbers there are.
     pub fn count(&self) -> u64
-        ensures exact { (t : ℕ) → (t < result) ↔ (self.now.first + t * self.now.stride ≤ self.now.limit) }
+        ensures { (t : ℕ) → (t < result) ↔ (self.now.first + t * self.now.stride ≤ self.now.limit) }
     {
         if self.first > self.limit {
             0

@@ -94,11 +94,7 @@ const ROWS: [Row; 12] = [
         "a diagonal and the diagonal of a view one column on",
         (4, 4),
         ((1, 1, 4), (1, 1, 4), Part::Diag),
-        (
-            (1, 1, 3),
-            (2, 1, 4),
-            Part::Diag,
-        ),
+        ((1, 1, 3), (2, 1, 4), Part::Diag),
         false,
     ),
     (

@@ -6,8 +6,8 @@ pub returns-in_default-clause-exact : goal.returns-in_default-clause-exact
 returns-in_default-clause-exact c = λ x. (
   (λ none. absurd (c.none_from.ensures.none x none)),
   (λ some.
-  let way = way_from c.args.self.now.first c.args.self.now.stride c.args.low c.complement.result x (omega arith) c.complement.ensures.exact some.1 some.0.0 in
-  absurd (c.in_default.ensures (omega (arith, way.1, some.0.1)))),
+      let way = way_from c.args.self.now.first c.args.self.now.stride c.args.low c.complement.result x (omega arith) c.complement.ensures.exact some.1 some.0.0 in
+      absurd (c.in_default.ensures (omega (arith, way.1, some.0.1)))),
 )
 
 pub returns-clause-exact : goal.returns-clause-exact
