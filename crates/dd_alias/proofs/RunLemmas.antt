@@ -1,5 +1,5 @@
 -- The numbers of a run from one on.
-use Rattle.std.proofs.Common.{◌≡◌, ℕ, ◌+◌, ◌*◌, ◌-◌, ◌<◌, ◌≤◌, ◌^◌, ◌↔◌, arith}
+use Rattle.std.proofs.Common.{ℕ, ◌+◌, ◌-◌, ◌≤◌, arith}
 use Rattle.dd_alias.specs.Congruence.{IsOnWay}
 use Rattle.dd_alias.proofs.CongruenceLemmas.{Completes}
 

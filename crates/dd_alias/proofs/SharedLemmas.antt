@@ -1,5 +1,5 @@
 -- What two runs of numbers have in common.
-use Rattle.std.proofs.Common.{◌≡◌, ℕ, ◌+◌, ◌*◌, ◌-◌, ◌<◌, ◌≤◌, ◌^◌, ◌↔◌, ap, refl, sym, subst, arith}
+use Rattle.std.proofs.Common.{◌≡◌, ℕ, ◌+◌, ◌*◌, ◌-◌, ◌<◌, ◌≤◌, ◌^◌, ap, refl, sym, subst, arith}
 use Rattle.std.specs.Prelude.{Option, None, Some, MatchOption, SomeIff}
 use Rattle.std.proofs.Math.Nat.{mul-le-mul_right}
 use Rattle.dd_alias.specs.declared.run.Run.{Run}

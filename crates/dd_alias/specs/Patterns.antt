@@ -1,6 +1,5 @@
 -- The elements of a view by the numbers of their row and column.
 use Rattle.std.specs.Prelude.{◌≡◌, ◌≢◌, ◌↔◌, ℕ, true}
-use Rattle.dd_views.specs.declared.part.Part.{Part}
 use Rattle.dd_views.specs.declared.part.Part.TheVariants.{All}
 use Rattle.dd_views.specs.declared.span3.Span3.{Span3}
 use Rattle.dd_views.specs.declared.view.View.{View}

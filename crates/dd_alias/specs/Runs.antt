@@ -1,5 +1,5 @@
 -- The numbers of a run.
-use Rattle.std.specs.Prelude.{ℕ, ◌^◌, ◌≤◌}
+use Rattle.std.specs.Prelude.{ℕ, ◌≤◌}
 use Rattle.dd_alias.specs.declared.run.Run.{Run}
 use Rattle.dd_alias.specs.Congruence.{IsOnWay}
 

@@ -46,7 +46,7 @@ impl Pattern {
     pub fn rows_in(&self, col: u64) -> Interval
         requires pattern { IsPattern self.now }
         requires col { IsIn self.now.cols col }
-        ensures { (r : ℕ) → IsIn self.now.rows r → HasElement self.now r col ↔ IsBetween result r }
+        ensures { (r : ℕ) → IsIn self.now.rows r → (HasElement self.now r col ↔ IsBetween result r) }
     {
         let places = kept_places(self.part, place_of(&self.cols, col), self.rows.count);
         if places.low > places.high {

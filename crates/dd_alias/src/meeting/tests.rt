@@ -1,5 +1,5 @@
 //! Overlaps at values from outside, and against the lists of a family of small views.
-ghost use Rattle.std.specs.Prelude.{◌≡◌, ◌<◌, ◌^◌, ◌*◌, ◌×◌, IfSome};
+ghost use Rattle.std.specs.Prelude.{◌<◌, IfSome};
 ghost use Rattle.dd_views.specs.Views.{IsView};
 
 use crate::overlap;
@@ -19,7 +19,7 @@ type Piece = (Steps, Steps, Part);
 /// A name, the size of an array, two views of it and whether they overlap.
 type Row = (&'static str, Size, Piece, Piece, bool);
 
-const ROWS: [Row; 12] = [
+const ROWS: [Row; 16] = [
     (
         "the lower triangle and what is above the diagonal",
         (3, 3),
@@ -104,6 +104,34 @@ const ROWS: [Row; 12] = [
         ((3, -1, 1), (1, 1, 3), Part::Diag),
         true,
     ),
+    (
+        "large steps that meet once",
+        (60000, 1),
+        ((1, 211, 60000), (1, 1, 1), Part::All),
+        ((2, 223, 60000), (1, 1, 1), Part::All),
+        true,
+    ),
+    (
+        "large steps, one before they meet",
+        (60000, 1),
+        ((1, 211, 27430), (1, 1, 1), Part::All),
+        ((2, 223, 60000), (1, 1, 1), Part::All),
+        false,
+    ),
+    (
+        "large steps, one way up and one down",
+        (60000, 1),
+        ((59999, -377, 1), (1, 1, 1), Part::All),
+        ((5, 233, 60000), (1, 1, 1), Part::All),
+        true,
+    ),
+    (
+        "large steps down to one above where they meet",
+        (60000, 1),
+        ((59999, -377, 45674), (1, 1, 1), Part::All),
+        ((5, 233, 60000), (1, 1, 1), Part::All),
+        false,
+    ),
 ];
 
 const PARTS: [Part; 6] = [
@@ -145,7 +173,7 @@ fn check_row(rt: &impl Abort, row: &Row) {
 fn small_view(array: u32, size: Size, piece: Piece) -> Option<View>
     ensures { IfSome result IsView }
 {
-    if size.0 < 100 && size.1 < 100 {
+    if size.0 < 65536 && size.1 < 65536 {
         let shape = Shape {
             rows: size.0,
             cols: size.1,

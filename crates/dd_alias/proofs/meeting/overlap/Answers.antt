@@ -1,4 +1,4 @@
-use Rattle.std.proofs.Common.{◌≡◌, ◌<◌, ◌^◌, arith}
+use Rattle.std.proofs.Common.{◌≡◌, arith}
 use Rattle.dd_views.proofs.ElementsLemmas.{no_rows}
 use Rattle.dd_alias.proofs.MeetingLemmas.{is_pattern, meets_shared, shared_meets}
 use Rattle.dd_alias.proofs.meeting.overlap.Goals as goal
