@@ -17,9 +17,9 @@
 //! both views are whole.
 //!
 //! Inside, `congruence` finds least solutions, `run` has numbers in steps and `shared` what two runs share;
-//! `place` goes from a number of a span to its place and back; `columns` has the rows that a column of a part keeps, by
-//! their places, and `pattern` by their numbers; and
-//! `meeting` joins them. Definitions other than `specs/Overlap.antt` are cited by private contracts alone.
+//! `place` goes from a number of a span to its place and back; `columns` has the rows that a column of a part
+//! keeps, by their places, and `pattern` by their numbers; and `meeting` joins them. Definitions other than
+//! `specs/Overlap.antt` are cited by private contracts alone.
 #![tactic(auto)]
 
 mod columns;

@@ -11,7 +11,8 @@ use crate::run::Run;
 use crate::shared::{are_apart, common};
 use dd_views::View;
 
-/// Whether both views are of one array and share a position of it. It takes no memory.
+/// Whether both views are of one array and share a position of it, where views of one array have one height.
+/// It takes no memory.
 pub fn overlap(a: &View, b: &View) -> bool
     requires a { IsView a.now }
     requires b { IsView b.now }

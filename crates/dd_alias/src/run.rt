@@ -29,7 +29,7 @@ impl Run {
     }
 
     /// The numbers that aren't below one.
-    pub fn from(&self, low: u64) -> Run
+    pub fn at_least(&self, low: u64) -> Run
         ensures exact { (x : ℕ) → HasNumber result x ↔ (HasNumber self.now x × (low ≤ x)) }
         ensures first { low ≤ result.first }
     {
@@ -50,7 +50,10 @@ impl Run {
     pub fn has_between(&self, low: u64, high: u64) -> bool
         ensures { IsTrue result ↔ ((x : ℕ) × HasNumber self.now x × (low ≤ x) × (x ≤ high)) }
     {
-        let rest = self.from(low);
+        if low > high {
+            return false;
+        }
+        let rest = self.at_least(low);
         rest.first <= rest.limit.min(high)
     }
 

@@ -16,7 +16,7 @@ pub fn are_apart(a: &Run, b: &Run) -> bool
 pub fn common(a: &Run, b: &Run) -> Run
     ensures { (x : ℕ) → HasNumber result x ↔ (HasNumber a.now x × HasNumber b.now x) }
 {
-    common_behind(&a.from(b.first), b)
+    common_behind(&a.at_least(b.first), b)
 }
 
 /// The numbers that both have, where one begins where the other does or behind.

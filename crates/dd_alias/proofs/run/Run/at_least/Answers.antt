@@ -1,6 +1,6 @@
 use Rattle.std.proofs.Common.{arith}
 use Rattle.dd_alias.proofs.RunLemmas.{way_from, from_way}
-use Rattle.dd_alias.proofs.run.Run.from.Goals as goal
+use Rattle.dd_alias.proofs.run.Run.at_least.Goals as goal
 
 pub returns-in_default-clause-exact : goal.returns-in_default-clause-exact
 returns-in_default-clause-exact c = λ x. (
