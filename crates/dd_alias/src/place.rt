@@ -1,5 +1,5 @@
 //! The numbers of a span and their places, from 1.
-ghost use Rattle.std.specs.Prelude.{◌≡◌, ℕ, ◌+◌, ◌*◌, ◌^◌, ◌<◌, ◌≤◌, ◌↔◌, unsigned_abs};
+ghost use Rattle.std.specs.Prelude.{◌≡◌, ℕ, ◌+◌, ◌*◌, ◌/◌, ◌^◌, ◌<◌, ◌≤◌, ◌↔◌, unsigned_abs};
 ghost use Rattle.dd_views.specs.IndexList.{number_at_place};
 ghost use Rattle.dd_views.specs.Span.{IsSmallSpan};
 ghost use Rattle.dd_alias.specs.Places.{IsAt, IsIn};
@@ -56,7 +56,7 @@ pub fn place_of(span: &Span3, number: u64) -> u64
     ensures at { IsAt span.now number result }
     ensures only { (i : ℕ) → IsAt span.now number i → i ≡ result }
 {
-    u64::from(span.first).abs_diff(number) / stride(span) + 1
+    quotient(u64::from(span.first).abs_diff(number), stride(span)) + 1
 }
 
 /// The size of the step.
@@ -64,4 +64,15 @@ fn stride(span: &Span3) -> u64
     ensures { result ≡ unsigned_abs span.now.step }
 {
     span.step.unsigned_abs()
+}
+
+/// A quotient. Most views have steps of 1, and a test is faster than a division.
+fn quotient(number: u64, divisor: u64) -> u64
+    requires { 0 < divisor }
+    ensures { result ≡ number / divisor }
+{
+    if divisor == 1 {
+        return number;
+    }
+    number / divisor
 }
