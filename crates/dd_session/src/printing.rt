@@ -56,6 +56,7 @@ fn print_row<O: Sink>(
     ensures all { OnOk result (Appends (O.taken out.old) (O.taken out.new) (printed_row shape values.now i)) }
     ensures front { OnErr result (AppendsFront (O.taken out.old) (O.taken out.new) (printed_row shape values.now i)) }
     ensures cause { IsErrOf result RunFault.WriteFault → Rose (O.faults out.old) (O.faults out.new) }
+    ensures kept { (¬ IsErrOf result RunFault.WriteFault) → O.faults out.new ≡ O.faults out.old }
     ensures later { O.faults out.old ≤ O.faults out.new }
 {
     line.clear();
@@ -75,6 +76,7 @@ pub(crate) fn print_array<O: Sink>(
     ensures all { OnOk result (Appends (O.taken out.old) (O.taken out.new) (printed shape values.now)) }
     ensures front { OnErr result (AppendsFront (O.taken out.old) (O.taken out.new) (printed shape values.now)) }
     ensures cause { IsErrOf result RunFault.WriteFault → Rose (O.faults out.old) (O.faults out.new) }
+    ensures kept { (¬ IsErrOf result RunFault.WriteFault) → O.faults out.new ≡ O.faults out.old }
     ensures later { O.faults out.old ≤ O.faults out.new }
 {
     for i in 0..shape.rows {

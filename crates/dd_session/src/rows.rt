@@ -47,6 +47,7 @@ fn print_numbered<O: Sink>(
     ensures all { OnOk result (Appends (O.taken out.old) (O.taken out.new) (printed (shape_numbered shapes.now number) (values_at (lists_of world.now) number))) }
     ensures front { OnErr result (AppendsFront (O.taken out.old) (O.taken out.new) (printed (shape_numbered shapes.now number) (values_at (lists_of world.now) number))) }
     ensures cause { IsErrOf result RunFault.WriteFault → Rose (O.faults out.old) (O.faults out.new) }
+    ensures kept { (¬ IsErrOf result RunFault.WriteFault) → O.faults out.new ≡ O.faults out.old }
     ensures later { O.faults out.old ≤ O.faults out.new }
 {
     let values = values_of(shapes, world, number);
@@ -69,6 +70,7 @@ fn run_row<O: Sink>(
     ensures all { OnOk result (Appends (O.taken out.old) (O.taken out.new) (row_text shapes.now (lists_of world.old) row.now)) }
     ensures front { OnErr result (AppendsFront (O.taken out.old) (O.taken out.new) (row_text shapes.now (lists_of world.old) row.now)) }
     ensures cause { IsErrOf result RunFault.WriteFault → Rose (O.faults out.old) (O.faults out.new) }
+    ensures kept { (¬ IsErrOf result RunFault.WriteFault) → O.faults out.new ≡ O.faults out.old }
     ensures later { O.faults out.old ≤ O.faults out.new }
 {
     match *row {
@@ -96,6 +98,7 @@ fn run_from<O: Sink>(
     ensures all { OnOk result (Appends (O.taken out.old) (O.taken out.new) (text_from shapes.now (lists_of world.old) rows.now)) }
     ensures front { OnErr result (AppendsFront (O.taken out.old) (O.taken out.new) (text_from shapes.now (lists_of world.old) rows.now)) }
     ensures cause { IsErrOf result RunFault.WriteFault → Rose (O.faults out.old) (O.faults out.new) }
+    ensures kept { (¬ IsErrOf result RunFault.WriteFault) → O.faults out.new ≡ O.faults out.old }
     ensures later { O.faults out.old ≤ O.faults out.new }
 {
     let mut line = Vec::new(alloc);
@@ -115,6 +118,7 @@ pub(crate) fn run_rows<O: Sink>(
     ensures all { OnOk result (Appends (O.taken out.old) (O.taken out.new) (script_text rows.now)) }
     ensures front { OnErr result (AppendsFront (O.taken out.old) (O.taken out.new) (script_text rows.now)) }
     ensures cause { IsErrOf result RunFault.WriteFault → Rose (O.faults out.old) (O.faults out.new) }
+    ensures kept { (¬ IsErrOf result RunFault.WriteFault) → O.faults out.new ≡ O.faults out.old }
     ensures later { O.faults out.old ≤ O.faults out.new }
 {
     let shapes = shapes_of(alloc, rows)?;

@@ -25,6 +25,8 @@ fn run<S: Source, O: Sink>(alloc: Global, src: &mut S, out: &mut O) -> Status
     ensures ends { EndsWith result (S.left src.old) (S.left src.new) (O.taken out.old) (O.taken out.new) }
     ensures read_cause { result ≡ Status.ReadFault → Rose (S.faults src.old) (S.faults src.new) }
     ensures write_cause { result ≡ Status.WriteFault → Rose (O.faults out.old) (O.faults out.new) }
+    ensures reads_told { (result ≡ Status.ReadFault → ⊥) → S.faults src.new ≡ S.faults src.old }
+    ensures writes_told { (result ≡ Status.WriteFault → ⊥) → O.faults out.new ≡ O.faults out.old }
     ensures reads_later { S.faults src.old ≤ S.faults src.new }
     ensures writes_later { O.faults out.old ≤ O.faults out.new }
 {
@@ -59,6 +61,8 @@ fn run_if_asked<S: Source, O: Sink>(
         → EndsWith result (S.left src.old) (S.left src.new) (O.taken out.old) (O.taken out.new) }
     ensures read_cause { result ≡ Status.ReadFault → Rose (S.faults src.old) (S.faults src.new) }
     ensures write_cause { result ≡ Status.WriteFault → Rose (O.faults out.old) (O.faults out.new) }
+    ensures reads_told { (result ≡ Status.ReadFault → ⊥) → S.faults src.new ≡ S.faults src.old }
+    ensures writes_told { (result ≡ Status.WriteFault → ⊥) → O.faults out.new ≡ O.faults out.old }
     ensures reads_later { S.faults src.old ≤ S.faults src.new }
     ensures writes_later { O.faults out.old ≤ O.faults out.new }
 {
@@ -101,6 +105,10 @@ pub fn run_words<S: Source, O: Sink, E: Sink>(
     // Why a read or a write failed.
     ensures read_cause { result.status ≡ Status.ReadFault → Rose (S.faults src.old) (S.faults src.new) }
     ensures write_cause { result.status ≡ Status.WriteFault → Rose (O.faults out.old) (O.faults out.new) }
+
+    // No fault is passed over.
+    ensures reads_told { (result.status ≡ Status.ReadFault → ⊥) → S.faults src.new ≡ S.faults src.old }
+    ensures writes_told { (result.status ≡ Status.WriteFault → ⊥) → O.faults out.new ≡ O.faults out.old }
 
     // What the error output got.
     ensures message { Rose (E.faults err.old) (E.faults err.new)
