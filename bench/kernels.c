@@ -83,6 +83,52 @@ KERNEL stencil5(out x, in y, size_t rows, size_t cols) {
 static size_t rows[3], cols[3];
 static u64 *bufs[3];
 
+static void trmv(u64 *restrict x, const u64 *restrict l, size_t n) {
+    const u64 *column = l + n * (n + 1) / 2;
+    for (size_t j = n; j-- > 0;) {
+        column -= n - j;
+        u64 k = x[j];
+        for (size_t i = 1; i < n - j; i++) x[j + i] += k * column[i];
+        x[j] = k * column[0];
+    }
+}
+
+static void trsv_unit(u64 *restrict x, const u64 *restrict p, size_t n) {
+    for (size_t j = 0; j < n; j++) {
+        u64 k = x[j];
+        for (size_t i = 0; i < n - j - 1; i++) x[j + 1 + i] -= k * p[i];
+        p += n - j - 1;
+    }
+}
+
+static void mirror(const u64 *restrict p, u64 *restrict q, size_t n) {
+    for (size_t j = 1; j < n; j++) {
+        size_t place = j - 1, step = n - 1;
+        for (size_t i = 0; i < j; i++) {
+            *q++ = p[place];
+            place += --step;
+        }
+    }
+}
+
+static void syrk_packed(u64 *restrict l, const u64 *restrict a, size_t n, size_t p) {
+    for (size_t j = 0; j < n; j++) {
+        for (size_t q = 0; q < p; q++) {
+            const u64 *part = a + q * n + j;
+            u64 k = part[0];
+            for (size_t i = 0; i < n - j; i++) l[i] += k * part[i];
+        }
+        l += n - j;
+    }
+}
+
+// the order of a strict triangle of so many elements
+static size_t order_of(size_t len) {
+    size_t n = 1;
+    while (n * (n - 1) / 2 < len) n++;
+    return n;
+}
+
 static void run(const char *name, i64 k) {
     u64 *x = bufs[0], *y = bufs[1], *z = bufs[2];
     size_t n = rows[0] * cols[0], m = rows[1] * cols[1];
@@ -111,6 +157,11 @@ static void run(const char *name, i64 k) {
     else IS(gemm) gemm(x, y, z, rows[1], cols[1], cols[2]);
     else IS(gemv) gemv(x, y, z, rows[1], cols[1]);
     else IS(stencil5) stencil5(x, y, rows[1], cols[1]);
+    else IS(trmv) trmv(x, y, n);
+    else IS(trsv_unit) trsv_unit(x, y, n);
+    else IS(trsm_unit) for (size_t j = 0; j < cols[0]; j++) trsv_unit(x + j * rows[0], y, rows[0]);
+    else IS(mirror) mirror(x, y, order_of(n));
+    else IS(syrk_packed) syrk_packed(x, y, rows[1], cols[1]);
     else exit(9);
 }
 

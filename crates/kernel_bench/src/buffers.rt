@@ -1,9 +1,9 @@
 //! The buffers of a round.
 ghost use Rattle.std.specs.Prelude.{◌≡◌, ◌∷◌, [], ◌++◌, length, map, IfOk, OnOk};
 ghost use Rattle.dd_kernels.specs.Shapes.{HaveShapes, ShapesFit, size_of};
-ghost use Rattle.dd_kernels.specs.Table.{IsPlain};
 
-use dd_kernels::{Args, Kernel, Shape, plain};
+use dd_apply::apply;
+use dd_kernels::{Args, Kernel, Shape};
 use std::alloc::{AllocError, Global};
 
 /// One buffer of numbers for each shape. They follow from `seed`.
@@ -51,12 +51,11 @@ fn numbers(alloc: Global, shape: Shape, seed: u64) -> Result<Vec<i64>, AllocErro
 
 /// Runs a kernel so many times on the same buffers.
 pub fn run_times(k: Kernel, scalar: i64, times: u32, args: &mut Args)
-    requires plain { IsPlain k }
     requires fit { ShapesFit k args.old.shapes.items }
     requires filled { HaveShapes args.old.shapes.items (map (λ b. b.items) args.old.bufs.items) }
 {
     for _ in 0..times {
-        plain(k, scalar, args);
+        apply(k, scalar, args);
     }
 }
 

@@ -5,7 +5,7 @@
 //! buffers anew. A checksum of all of them is printed at the end, for comparison with the same loops
 //! elsewhere.
 //!
-//! What a kernel computes is proved in `dd_kernels`. Of this program it is proved that it is safe and that
+//! What a kernel computes is proved in `dd_kernels` and `dd_packed`. Of this program it is proved that it is safe and that
 //! it runs kernels only on buffers that they take; nothing is claimed of what it prints.
 #![tactic(auto)]
 

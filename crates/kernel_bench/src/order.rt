@@ -1,10 +1,9 @@
 //! The words of the command line.
 ghost use Rattle.std.specs.Prelude.{IfOk};
 ghost use Rattle.dd_kernels.specs.Shapes.{ShapesFit};
-ghost use Rattle.dd_kernels.specs.Table.{IsPlain};
 
 use anyhow::{Result, bail, ensure};
-use dd_kernels::{Kernel, Shape, is_plain, kernel_named, shapes_fit};
+use dd_kernels::{Kernel, Shape, kernel_named, shapes_fit};
 use std::alloc::Global;
 
 /// Which kernel is run, on what, and how often.
@@ -17,9 +16,9 @@ pub struct Order {
     pub shapes: Vec<Shape>,
 }
 
-/// Reads the words; an error where they name no kernel that `plain` runs, or shapes that it doesn't take.
+/// Reads the words; an error where they name no kernel, or shapes that it doesn't take.
 pub fn read_order(alloc: Global, words: &[String]) -> Result<Order>
-    ensures { IfOk result (λ order. IsPlain order.kernel × ShapesFit order.kernel order.shapes.items) }
+    ensures { IfOk result (λ order. ShapesFit order.kernel order.shapes.items) }
 {
     let [name, rounds, times, scalar, sides @ ..] = words else {
         bail!("words: KERNEL ROUNDS TIMES SCALAR ROWS COLS ..");
@@ -36,14 +35,11 @@ pub fn read_order(alloc: Global, words: &[String]) -> Result<Order>
     })
 }
 
-fn read_kernel(name: &str) -> Result<Kernel>
-    ensures { IfOk result (λ k. IsPlain k) }
-{
-    let Some(kernel) = kernel_named(name.as_bytes()) else {
-        bail!("{name} is no kernel");
-    };
-    ensure!(is_plain(kernel), "{name} works on packed triangles");
-    Ok(kernel)
+fn read_kernel(name: &str) -> Result<Kernel> {
+    match kernel_named(name.as_bytes()) {
+        Some(kernel) => Ok(kernel),
+        None => bail!("{name} is no kernel"),
+    }
 }
 
 fn read_shapes(alloc: Global, sides: &[String]) -> Result<Vec<Shape>> {
