@@ -1,20 +1,11 @@
 -- The home of a block, a space, as the statements of a script move it.
-use Rattle.std.specs.Prelude.{ℕ, zero, suc, ◌-◌, nat_eq, cond, List, Option, None, Some, take, slice_index_or, unwrap_or}
+use Rattle.std.specs.Prelude.{ℕ, ◌-◌, nat_eq, cond, List, Option, None, Some, take, unwrap_or}
 use Rattle.std.specs.List.{filter_map, last_or}
-use Rattle.dd_blocks.specs.declared.block_row.BlockRow.{BlockRow}
 use Rattle.dd_blocks.specs.declared.plan.Plan.{Plan}
 use Rattle.dd_blocks.specs.declared.statement_row.StatementRow.{StatementRow}
 use Rattle.dd_blocks.specs.declared.what.What.{What}
 use Rattle.dd_blocks.specs.declared.what.What.TheVariants.{MoveTo}
-
--- the row with a number, from 1, or the one that stands for no row
-abbrev pub numbered : {Row : Type 0} → Row → List Row → ℕ → Row
-numbered none rows zero = none
-numbered none rows (suc n) = slice_index_or rows n none
-
--- a block's row
-abbrev pub block_row : Plan → ℕ → BlockRow
-block_row plan n = numbered (record { array = 0; home = 0; size = 0 }) plan.blocks n
+use Rattle.dd_blocks.specs.Numbered.{block_row}
 
 -- the space to which a statement moves an array
 abbrev pub space_moved_to : ℕ → What → Option ℕ

@@ -1,2 +1,11 @@
 pub mod Grids
+pub mod Numbered
 pub mod Homes
+pub mod Conflicts
+pub mod Charges
+pub mod Limits
+pub mod Layout
+pub mod Lives
+pub mod Tasks
+pub mod Touches
+pub mod WellFormed
