@@ -1,0 +1,5 @@
+pub mod Worlds
+pub mod Steps
+pub mod Versions
+pub mod Moves
+pub mod Text

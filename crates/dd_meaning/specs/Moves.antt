@@ -1,0 +1,55 @@
+-- How many elements a region has to move: a version of an element is made in one space, and each other space where it is
+-- wanted gets it once. It is wanted where a task that reads it is placed, and at the end of the region in its home.
+use Rattle.std.specs.Prelude.{ℕ, Bool, ◌&&◌, ◌||◌, not, nat_eq, cond, List, ◌∷◌, length, count_by, sum_by}
+use Rattle.std.specs.List.{filter, list_any, range_with_len}
+use Rattle.dd_blocks.specs.declared.plan.Plan.{Plan}
+use Rattle.dd_blocks.specs.Charges.{block_with}
+use Rattle.dd_blocks.specs.Grids.{element_count}
+use Rattle.dd_blocks.specs.Homes.{home_in_region}
+use Rattle.dd_blocks.specs.Numbered.{array_row, proc_row, task_row}
+use Rattle.dd_meaning.specs.Versions.{Element, task_reads, task_writes, needed_version, opening_version, last_version, tasks_in}
+
+-- the space in which a task runs
+abbrev pub place_of : Plan → ℕ → ℕ
+place_of plan t = (proc_row plan (task_row plan t).proc).space
+
+-- the home of an element when a region begins
+abbrev pub home_of : Plan → ℕ → Element → ℕ
+home_of plan region e = home_in_region plan region (block_with plan e.array e.pos)
+
+-- where a version is made: the space of its task where that is of the region, or else the home
+abbrev pub source_of : Plan → ℕ → Element → ℕ → ℕ
+source_of plan region e version = cond (list_any (λ t. nat_eq t version) (tasks_in plan region)) (place_of plan version) (home_of plan region e)
+
+-- a task of the region that runs in the space finds the version and reads it
+abbrev pub is_read_in : Plan → ℕ → Element → ℕ → ℕ → Bool
+is_read_in plan region e version space =
+    list_any (λ t. nat_eq (place_of plan t) space && task_reads (task_row plan t) e && nat_eq (needed_version plan e t) version) (tasks_in plan region)
+
+-- the region ends with the version, and the space is the home
+abbrev pub is_kept_in : Plan → ℕ → Element → ℕ → ℕ → Bool
+is_kept_in plan region e version space = nat_eq (home_of plan region e) space && nat_eq (last_version plan region e) version
+
+-- the version has to be moved to the space
+abbrev pub moves_to : Plan → ℕ → Element → ℕ → ℕ → Bool
+moves_to plan region e version space =
+    not (nat_eq (source_of plan region e version) space) && (is_read_in plan region e version space || is_kept_in plan region e version space)
+
+-- the versions that are current in a region: the one with which it begins, and those that its tasks write
+abbrev pub versions_in : Plan → ℕ → Element → List ℕ
+versions_in plan region e = opening_version plan region e ∷ filter (λ t. task_writes (task_row plan t) e) (tasks_in plan region)
+
+-- how often an element is moved: for each version, the spaces to which it has to be
+abbrev pub moves_of_version : Plan → ℕ → Element → ℕ → ℕ
+moves_of_version plan region e version = count_by (moves_to plan region e version) (range_with_len 1 (length plan.spaces))
+
+abbrev pub moves_of : Plan → ℕ → Element → ℕ
+moves_of plan region e = sum_by (moves_of_version plan region e) (versions_in plan region e)
+
+-- over all elements of all arrays
+abbrev pub moves_in_array : Plan → ℕ → ℕ → ℕ
+moves_in_array plan region n =
+    sum_by (λ p. moves_of plan region (record { array = n; pos = p })) (range_with_len 0 (element_count (array_row plan n).grid))
+
+abbrev pub moved : Plan → ℕ → ℕ
+moved plan region = sum_by (moves_in_array plan region) (range_with_len 1 (length plan.arrays))

@@ -1,0 +1,13 @@
+//! What a script means, over its Plan: the arrays that its tasks change one after the other, and what is printed of
+//! them.
+//!
+//! A world is the values of all arrays (`specs/Worlds.antt`). A task gathers its accesses from a world, its kernel
+//! computes, and what it wrote is stored (`specs/Steps.antt`). The worlds after each task of the script are its sequence,
+//! and what the statements print of them is its text (`specs/Text.antt`). None of this knows of spaces, blocks or
+//! workers.
+//!
+//! How many elements a region has to move follows from where its tasks are placed: which task wrote an element last
+//! (`specs/Versions.antt`), in which space that version is made, and where it is wanted (`specs/Moves.antt`).
+//!
+//! The crate holds these definitions and, in `proofs/`, examples of them. It has no calls.
+#![tactic(auto)]
