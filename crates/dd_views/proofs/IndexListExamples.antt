@@ -1,12 +1,13 @@
 -- Worked examples of the definitions: each computes.
-use Rattle.std.proofs.Common.{◌≡◌, ℕ, ℤ, pos, negsuc, [], ◌∷◌, refl}
+use Rattle.std.proofs.Common.{◌≡◌, ℕ, ℤ, pos, negsuc, List, [], ◌∷◌, refl}
 use Rattle.dd_views.specs.declared.part.Part.{Part}
 use Rattle.dd_views.specs.declared.part.Part.TheVariants.{All, Lower, Upper, UnitLower, UnitUpper, Diag}
 use Rattle.dd_views.specs.declared.range.Range.TheVariants.{Steps}
 use Rattle.dd_views.specs.declared.span3.Span3.{Span3}
 use Rattle.dd_views.specs.declared.view.View.{View}
 use Rattle.dd_views.specs.Progression.{bounds_of, number_at}
-use Rattle.dd_views.specs.IndexList.{index_list}
+use Rattle.dd_views.specs.IndexList.{column_list, index_list}
+use Rattle.dd_views.specs.Positions.{positions_in}
 
 abbrev spanned : ℕ → ℤ → ℕ → Span3
 spanned first step count = record { first = first; step = step; count = count }
@@ -47,3 +48,17 @@ upper_corner = refl
 -- rows 3 and 1 of columns 2 and 1
 turned : index_list (view (spanned 3 (negsuc 1) 2) (spanned 2 (negsuc 0) 2) Lower) ≡ 5 ∷ 3 ∷ 0 ∷ []
 turned = refl
+
+-- its first column has both rows, and its second only row 1
+abbrev turned_column : ℕ → List ℕ
+turned_column j = column_list (view (spanned 3 (negsuc 1) 2) (spanned 2 (negsuc 0) 2) Lower) j
+
+turned_first : turned_column 1 ≡ 5 ∷ 3 ∷ []
+turned_first = refl
+
+turned_second : turned_column 2 ≡ 0 ∷ []
+turned_second = refl
+
+-- two steps of -2 from 5
+stepped_down : positions_in (record { first = 5; step = negsuc 1; count = 3 }) ≡ 5 ∷ 3 ∷ 1 ∷ []
+stepped_down = refl

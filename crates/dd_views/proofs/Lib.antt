@@ -8,4 +8,6 @@ pub mod ViewLemmas
 pub mod WayLemmas
 pub mod ElementsLemmas
 pub mod OnceLemmas
+pub mod PositionsLemmas
+pub mod WalkLemmas
 mod IndexListExamples

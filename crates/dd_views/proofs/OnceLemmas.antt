@@ -1,17 +1,17 @@
 -- No position stands twice in a view.
-use Rattle.std.proofs.Common.{◌≡◌, ◌≢◌, ℕ, zero, suc, ◌+◌, ◌*◌, ◌-◌, ◌≤◌, List, [], ◌∷◌, ◌++◌, map, refl, sym, ◌∙◌, arith, unsigned_abs, ⊎_elim, subst}
+use Rattle.std.proofs.Common.{◌≡◌, ◌≢◌, ℕ, zero, suc, ◌+◌, ◌*◌, ◌-◌, ◌<◌, ◌≤◌, List, [], ◌∷◌, ◌++◌, map, refl, sym, ◌∙◌, arith, unsigned_abs, ⊎_elim, subst}
 use Rattle.std.specs.List.{AllPairs, Contains, flat_map, range_with_len}
 use Rattle.std.proofs.lemmas.Int.{ints}
 use Rattle.std.proofs.lemmas.List.Elements.{All-contains_itself, Contains-append_cases}
 use Rattle.std.proofs.lemmas.List.Kept.{AllPairs-cons, AllPairs-filter}
 use Rattle.dd_views.specs.declared.span3.Span3.{Span3}
 use Rattle.dd_views.specs.declared.view.View.{View}
-use Rattle.dd_views.specs.IndexList.{index_list, keeps, kept_rows, number_at_place, places, position}
+use Rattle.dd_views.specs.IndexList.{column_list, index_list, keeps, kept_rows, number_at_place, places, position}
 use Rattle.dd_views.specs.Span.{IsSpanIn, number}
 use Rattle.dd_views.specs.Views.{IsView}
 use Rattle.dd_views.proofs.SignedLemmas.{step_cases, times_up, times_down, size_up, size_pos}
 use Rattle.dd_views.proofs.WayLemmas.{exact}
-use Rattle.dd_views.proofs.ListsLemmas.{has_head, has_tail, in_range, in_filter, in_map, in_flat_map}
+use Rattle.dd_views.proofs.ListsLemmas.{has_head, has_tail, in_range, range_has, in_filter, in_map, in_flat_map}
 use Rattle.dd_views.proofs.ElementsLemmas.{IsElement, numbers}
 
 -- no number of the list is equal to a later one
@@ -92,7 +92,7 @@ one_row v i k j view at_col at_i at_k same =
     let row_k = (numbers v (position v k j) k j view there).row in
     span_once view.0.rows v.rows i k view.1.rows here.row.0 here.row.1 there.row.0 there.row.1 (row_i ∙ sym row_k)
 
-one_col : (v : View) (j k x : ℕ) → IsView v → Contains (places v.cols.count) j → Contains (places v.cols.count) k → Contains (map (λ i. position v i j) (kept_rows v j)) x → Contains (map (λ i. position v i k) (kept_rows v k)) x → j ≡ k
+one_col : (v : View) (j k x : ℕ) → IsView v → Contains (places v.cols.count) j → Contains (places v.cols.count) k → Contains (column_list v j) x → Contains (column_list v k) x → j ≡ k
 one_col v j k x view at_j at_k in_j in_k =
     let row_j = in_map (λ i. position v i j) (kept_rows v j) x in_j in
     let row_k = in_map (λ i. position v i k) (kept_rows v k) x in_k in
@@ -102,7 +102,14 @@ one_col v j k x view at_j at_k in_j in_k =
     let col_k = (numbers v x row_k.0 k view there).col in
     span_once view.0.cols v.cols j k view.1.cols here.col.0 here.col.1 there.col.0 there.col.1 (col_j ∙ sym col_k)
 
+once_there : (v : View) (j : ℕ) → IsView v → Contains (places v.cols.count) j → Once (column_list v j)
+once_there v j view at_col = once_map (λ i. position v i j) (kept_rows v j) (AllPairs-filter (λ (x y : ℕ). x ≢ y) (λ i. keeps v.part i j) (places v.rows.count) (once_range 1 v.rows.count)) (λ i k at_i at_k same. one_row v i k j view at_col at_i at_k same)
+
 pub once_view : (v : View) → IsView v → Once (index_list v)
-once_view v view = once_flat_map (λ j. map (λ i. position v i j) (kept_rows v j)) (places v.cols.count) (once_range 1 v.cols.count)
-    (λ j at_col. once_map (λ i. position v i j) (kept_rows v j) (AllPairs-filter (λ (x y : ℕ). x ≢ y) (λ i. keeps v.part i j) (places v.rows.count) (once_range 1 v.rows.count)) (λ i k at_i at_k same. one_row v i k j view at_col at_i at_k same))
+once_view v view = once_flat_map (column_list v) (places v.cols.count) (once_range 1 v.cols.count)
+    (λ j at_col. once_there v j view at_col)
     (λ j k x at_j at_k in_j in_k. one_col v j k x view at_j at_k in_j in_k)
+
+-- nor in a column, whose number is from 0
+pub once_column : (v : View) (j : ℕ) → IsView v → j < v.cols.count → Once (column_list v (j + 1))
+once_column v j view lt = once_there v (j + 1) view (range_has 1 v.cols.count (j + 1) (omega arith) (omega (arith, lt)))

@@ -1,5 +1,5 @@
 -- The positions that a view stands for, in its order.
-use Rattle.std.specs.Prelude.{ℕ, ◌+◌, ◌*◌, ◌-◌, Bool, true, nat_eq, nat_lt, nat_le, List, map}
+use Rattle.std.specs.Prelude.{ℕ, ◌+◌, ◌*◌, ◌-◌, Bool, true, nat_eq, nat_lt, nat_le, List, drop, map, take}
 use Rattle.std.specs.Int.RustNames.{unsigned_abs}
 use Rattle.std.specs.List.{filter, flat_map, range_with_len}
 use Rattle.dd_views.specs.declared.part.Part.{Part}
@@ -34,6 +34,17 @@ position v i j = (number_at_place v.cols j - 1) * v.height + (number_at_place v.
 abbrev pub kept_rows : View → ℕ → List ℕ
 kept_rows v j = filter (λ i. keeps v.part i j) (places v.rows.count)
 
--- column after column, and in each column row after row
+-- the positions in the column with the place j, row after row
+abbrev pub column_list : View → ℕ → List ℕ
+column_list v j = map (λ i. position v i j) (kept_rows v j)
+
+-- column after column
 abbrev pub index_list : View → List ℕ
-index_list v = flat_map (λ j. map (λ i. position v i j) (kept_rows v j)) (places v.cols.count)
+index_list v = flat_map (column_list v) (places v.cols.count)
+
+-- the positions in the first j columns, and in those behind them
+abbrev pub columns_before : View → ℕ → List ℕ
+columns_before v j = flat_map (column_list v) (take j (places v.cols.count))
+
+abbrev pub columns_from : View → ℕ → List ℕ
+columns_from v j = flat_map (column_list v) (drop j (places v.cols.count))

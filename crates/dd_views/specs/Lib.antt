@@ -2,6 +2,7 @@ pub mod Progression
 pub mod Span
 pub mod Room
 pub mod IndexList
+pub mod Positions
 pub mod Views
 pub mod Triangle
 pub mod Columns

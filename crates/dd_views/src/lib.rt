@@ -10,8 +10,10 @@
 //! array, so the upper part of rows 2 to 3 and columns 2 to 3 is 4, 7, 8.
 //!
 //! A view is its list of positions, `index_list` of `specs/IndexList.antt`. `len` is the list's length, `at` its
-//! element at a place, `has` whether a position is in it. No call takes memory or walks the elements: `len` and
-//! `has` are a few products and divisions, and `at` is one division, or one square root in a triangle.
+//! element at a place, `has` whether a position is in it, and `column` gives the positions of one column by the
+//! first of them, a step and how many there are, so that whoever wants all of them needs no division for each. No
+//! call takes memory or walks the elements: `len`, `has` and `column` are a few products and divisions, and `at` is
+//! one division, or one square root in a triangle.
 //!
 //! Inside, `progression` makes the span that a range lists, of the bounds that `bounds` gives; `span3` goes from
 //! a place to a number and back; `triangle` numbers the elements of columns of 1, 2, 3 and so on; `place` finds
@@ -20,6 +22,7 @@
 #![tactic(auto)]
 
 mod bounds;
+mod column;
 mod fault;
 mod items;
 mod part;
@@ -31,6 +34,7 @@ mod span3;
 mod triangle;
 mod view;
 
+pub use column::Column;
 pub use fault::ViewFault;
 pub use items::Items;
 pub use part::Part;

@@ -1,4 +1,4 @@
-ghost use Rattle.std.specs.Prelude.{◌≡◌, ◌≢◌, ◌^◌, ◌<◌, ◌↔◌, IsTrue};
+ghost use Rattle.std.specs.Prelude.{◌≡◌, ◌≢◌, ◌^◌, ◌+◌, ◌<◌, ◌↔◌, IsTrue};
 
 use crate::place::{Place, above, below, in_lower, in_upper, in_whole, on_diagonal};
 use crate::triangle::triangle;
@@ -19,7 +19,7 @@ pub enum Part {
 }
 
 impl Part {
-    ghost use Rattle.dd_views.specs.Columns.{size_by};
+    ghost use Rattle.dd_views.specs.Columns.{first_row, row_count, size_by};
     ghost use Rattle.dd_views.specs.IndexList.{keeps};
     ghost use Rattle.dd_views.specs.Places.{StandsAt};
 
@@ -40,6 +40,32 @@ impl Part {
             Part::Lower | Part::Upper => triangle(order),
             Part::UnitLower | Part::UnitUpper => triangle(order.saturating_sub(1)),
             Part::Diag => order,
+        }
+    }
+
+    /// The first row that the part keeps in a column. The row is from 1 and the column from 0.
+    pub(crate) fn first_row(self, j: u32) -> u64
+        ensures { result ≡ first_row self (j + 1) }
+    {
+        match self {
+            Part::All | Part::Upper | Part::UnitUpper => 1,
+            Part::Lower | Part::Diag => u64::from(j) + 1,
+            Part::UnitLower => u64::from(j) + 2,
+        }
+    }
+
+    /// How many of `rows` rows the part keeps in a column, from 0.
+    pub(crate) fn row_count(self, rows: u32, j: u32) -> u32
+        requires { self ≢ Part.All → j < rows }
+        ensures { result ≡ row_count self rows (j + 1) }
+    {
+        match self {
+            Part::All => rows,
+            Part::Lower => rows - j,
+            Part::Upper => j + 1,
+            Part::UnitLower => rows - j - 1,
+            Part::UnitUpper => j,
+            Part::Diag => 1,
         }
     }
 

@@ -1,9 +1,12 @@
 //! Views and their elements.
-ghost use Rattle.std.specs.Prelude.{◌≡◌, ◌≢◌, ◌+◌, ◌*◌, ◌^◌, ◌<◌, ◌≤◌, ◌↔◌, ◌⊎◌, AllPairs, Contains, IsTrue, IfOk, length, slice_index};
+ghost use Rattle.std.specs.Prelude.{◌≡◌, ◌≢◌, ◌+◌, ◌*◌, ◌^◌, ◌<◌, ◌≤◌, ◌↔◌, ◌⊎◌, ℕ, pos, ◌≤ℤ◌, AllPairs, Contains, IsTrue, IfOk, length, slice_index};
 ghost use Rattle.dd_views.specs.declared.shape.Shape.{Shape};
-ghost use Rattle.dd_views.specs.IndexList.{index_list, position};
+ghost use Rattle.dd_views.specs.Columns.{first_row, row_count};
+ghost use Rattle.dd_views.specs.IndexList.{column_list, index_list, position};
+ghost use Rattle.dd_views.specs.Positions.{position_in, positions_in, stepped};
 ghost use Rattle.dd_views.specs.Views.{HasBadRange, IsNotSquare, IsView, IsViewOf, Shows, shape_of};
 
+use crate::column::Column;
 use crate::fault::ViewFault;
 use crate::part::Part;
 use crate::place::Place;
@@ -96,6 +99,25 @@ impl View {
         self.position(place)
     }
 
+    /// The elements that a column of the view keeps, whose number is from 0. The columns one after the other are
+    /// the view, and they need no division for each element.
+    pub fn column(&self, j: u32) -> Column
+        requires view { IsView self.now }
+        requires within { j < self.now.cols.count }
+        ensures value { positions_in result ≡ column_list self.now (j + 1) }
+        ensures step { result.step ≡ self.now.rows.step }
+        ensures none { result.count ≡ 0 → result.first ≡ 0 }
+        ensures whole { (i : ℕ) → i < result.count → pos 0 ≤ℤ stepped result i }
+        ensures inside { (shape : Shape) → IsViewOf shape self.now → (i : ℕ) → i < result.count → position_in result i < shape.rows * shape.cols }
+    {
+        let count = self.part.row_count(self.rows.count, j);
+        Column {
+            first: self.first_in(j, count),
+            step: self.rows.step,
+            count,
+        }
+    }
+
     /// Whether the view has the element at a position of the array.
     pub fn has(&self, pos: u64) -> bool
         requires { IsView self.now }
@@ -112,6 +134,24 @@ impl View {
             return false;
         };
         self.part.keeps(Place { row, col })
+    }
+
+    /// The position in the array of the first of `count` elements that a column keeps, whose number is from 0. It
+    /// is 0 where there are none.
+    fn first_in(&self, j: u32, count: u32) -> u64
+        requires view { IsView self.now }
+        requires within { j < self.now.cols.count }
+        requires count { count ≡ row_count self.now.part self.now.rows.count (j + 1) }
+        ensures none { count ≡ 0 → result ≡ 0 }
+        ensures some { 0 < count → result ≡ position self.now (first_row self.now.part (j + 1)) (j + 1) }
+    {
+        if count == 0 {
+            return 0;
+        }
+        self.position(Place {
+            row: self.part.first_row(j),
+            col: u64::from(j) + 1,
+        })
     }
 
     /// The place of an element in the view, by its place in the view's order, from 0.
