@@ -1,3 +1,7 @@
+pub mod AnyLemmas
+pub mod ConflictLemmas
+pub mod FoundLemmas
+pub mod DependenciesLemmas
 pub mod CongruenceLemmas
 pub mod RunLemmas
 pub mod SharedLemmas

@@ -23,7 +23,9 @@
 #![tactic(auto)]
 
 mod columns;
+mod conflicts;
 mod congruence;
+mod dependencies;
 mod interval;
 mod meeting;
 mod pattern;
@@ -31,4 +33,6 @@ mod place;
 mod run;
 mod shared;
 
+pub use conflicts::conflict;
+pub use dependencies::deps;
 pub use meeting::overlap;
