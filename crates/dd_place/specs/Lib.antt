@@ -1,0 +1,6 @@
+pub mod Regions
+pub mod Leading
+pub mod Loads
+pub mod Chosen
+pub mod Placement
+pub mod Premises

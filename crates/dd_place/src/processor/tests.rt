@@ -1,0 +1,1 @@
+//! Placements at values from outside.
