@@ -1,0 +1,3 @@
+pub mod SmallPlans
+mod MovesExamples
+mod StepsExamples
