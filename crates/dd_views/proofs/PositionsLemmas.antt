@@ -1,6 +1,8 @@
 -- A column of a view by its first position and its step.
-use Rattle.std.proofs.Common.{◌≡◌, ◌≢◌, ℕ, zero, suc, ◌+◌, ◌*◌, ◌-◌, ◌<◌, ◌≤◌, ℤ, pos, ◌+ℤ◌, ◌*ℤ◌, ◌≤ℤ◌, ◌∷◌, length, map, refl, sym, ap, ◌∙◌, arith, unsigned_abs, ⊎_elim}
+use Rattle.std.proofs.Common.{◌≡◌, ◌≢◌, ℕ, zero, suc, ◌+◌, ◌*◌, ◌-◌, ◌%◌, ◌<◌, ◌≤◌, ◌^◌, ℤ, pos, negsuc, ◌+ℤ◌, ◌*ℤ◌, ◌≤ℤ◌, ◌∷◌, length, map, refl, sym, ap, ◌∙◌, arith, unsigned_abs, w64, ⊎_elim}
+use Rattle.std.specs.Int.{cast_unsigned}
 use Rattle.std.specs.List.{range_with_len}
+use Rattle.std.proofs.lemmas.Bool.{cases_eq}
 use Rattle.std.proofs.lemmas.Int.{ints}
 use Rattle.std.proofs.lemmas.List.{map-id}
 use Rattle.std.proofs.lemmas.List.FromFn.{length-map-range_with_len}
@@ -100,3 +102,30 @@ length_positions c = length-map-range_with_len (position_in c) 0 c.count
 
 pub positions_of_run : (c : Column) → c.step ≡ pos 1 → positions_in c ≡ range_with_len c.first c.count
 positions_of_run c one = map_ranges (position_in c) (λ i. i) 0 c.first c.count (λ i lt. let none : 0 + i ≡ i = omega arith in rw (none, one) (omega (arith, ints))) ∙ map-id (range_with_len c.first c.count)
+
+-- such a column is a piece of the array
+pub run_within : (c : Column) (n : ℕ) → c.step ≡ pos 1 → (c.count ≡ 0 → c.first ≡ 0) → ((i : ℕ) → i < c.count → position_in c i < n) → c.first + c.count ≤ n
+run_within c n one none inside = ⊎_elim
+    (λ (e : c.count ≡ 0). omega (arith, none e))
+    (λ (some : c.count ≢ 0). let last = rw one at (inside (c.count - 1) (omega arith)) in omega (arith, last))
+    (cases_eq c.count 0)
+
+more_steps : (a s : ℤ) (i : ℕ) → a +ℤ pos (i + 1) *ℤ s ≡ (a +ℤ pos i *ℤ s) +ℤ s
+more_steps a (pos n) i = omega (arith, ints)
+more_steps a (negsuc n) i = omega (arith, ints)
+
+turned : (p : ℕ) (s : ℤ) → p < 2 ^ 64 → pos 0 ≤ℤ (pos p +ℤ s) → unsigned_abs (pos p +ℤ s) < 2 ^ 64 → (p + cast_unsigned w64 s) % 2 ^ 64 ≡ unsigned_abs (pos p +ℤ s)
+turned p (pos n) small low high = omega arith
+turned p (negsuc n) small low high =
+    let size = size_up (pos p +ℤ negsuc n) low in
+    omega (arith, ints, size)
+
+-- for callers that go from one position to the next
+pub stepped_more : (c : Column) (i : ℕ) → stepped c (i + 1) ≡ stepped c i +ℤ c.step
+stepped_more c i = more_steps (pos c.first) c.step i
+
+-- what `wrapping_add_signed` makes of the step
+pub step_on : (c : Column) (p i : ℕ) → p < 2 ^ 64 → pos p ≡ stepped c i → pos 0 ≤ℤ stepped c (i + 1) → position_in c (i + 1) < 2 ^ 64 → (p + cast_unsigned w64 c.step) % 2 ^ 64 ≡ position_in c (i + 1)
+step_on c p i small here low high =
+    let there : stepped c (i + 1) ≡ pos p +ℤ c.step = stepped_more c i ∙ ap (λ (x : ℤ). x +ℤ c.step) (sym here) in
+    rw there (turned p c.step small (rw there at low) (rw there at high))
