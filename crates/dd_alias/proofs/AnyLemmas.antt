@@ -1,5 +1,5 @@
 -- Whether some element of a list is of a kind, by the elements at the places.
-use Rattle.std.proofs.Common.{◌≡◌, ℕ, ◌<◌, List, length, get_or, pos, sym, subst, ◌∙◌}
+use Rattle.std.proofs.Common.{ℕ, ◌<◌, List, length, get_or, pos, sym, subst, ◌∙◌}
 use Rattle.std.specs.List.{Any}
 use Rattle.std.proofs.lemmas.List.{get_or_default}
 use Rattle.dd_kernels.specs.declared.signature.Mode.TheVariants.{Read}

@@ -1,5 +1,5 @@
 -- Tasks are in conflict where accesses of theirs clash.
-use Rattle.std.proofs.Common.{◌≡◌, ◌⊎◌, ◌↔◌, ◌≤◌, ◌<◌, ◌+◌, ℕ, true, List, [], ◌∷◌, length, get_or, inl, inr, ⊎_elim, refl, sym, ◌∙◌, arith}
+use Rattle.std.proofs.Common.{◌≡◌, ◌↔◌, ℕ, true, [], ◌∷◌, inl, inr, ⊎_elim, refl, sym, ◌∙◌, arith}
 use Rattle.std.specs.List.{Any}
 use Rattle.dd_views.specs.declared.shape.Shape.{Shape}
 use Rattle.dd_blocks.specs.declared.access_row.AccessRow.{AccessRow}

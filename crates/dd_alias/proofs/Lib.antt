@@ -6,5 +6,7 @@ pub mod CongruenceLemmas
 pub mod RunLemmas
 pub mod SharedLemmas
 pub mod PlaceLemmas
+pub mod BandLemmas
+pub mod LineLemmas
 pub mod PatternLemmas
 pub mod MeetingLemmas

@@ -24,7 +24,7 @@ down_at s i down small low high =
     omega (arith, ints, size, times_down (i - 1) s.step down)
 
 -- a sum of places by its steps
-steps_sum : (a b c s : ℕ) → c ≡ a + b → c * s ≡ a * s + b * s
+pub steps_sum : (a b c s : ℕ) → c ≡ a + b → c * s ≡ a * s + b * s
 steps_sum a b c s e = let all : c * s ≡ (a + b) * s = ap (λ (k : ℕ). k * s) e in omega (arith, all)
 
 pub run_up : (s : Span3) (x : ℕ) → pos 0 <ℤ s.step → IsSmallSpan s → 0 < s.count → IsOnWay s.first (unsigned_abs s.step) x → x ≤ s.first + (s.count - 1) * unsigned_abs s.step → IsIn s x
@@ -79,20 +79,20 @@ pub is_down : (s : Span3) → IsSmallSpan s → ¬ (pos 0 <ℤ s.step) → s.ste
 is_down s small not_up = ⊎_elim (λ up. absurd (not_up up)) (λ down. down) (step_cases s.step small.2.steps)
 
 -- numbers rise or fall with their places
-up_order : (s : Span3) (i k : ℕ) → pos 0 <ℤ s.step → IsSmallSpan s → 1 ≤ i → i ≤ k → k ≤ s.count → number_at_place s i ≤ number_at_place s k
+pub up_order : (s : Span3) (i k : ℕ) → pos 0 <ℤ s.step → IsSmallSpan s → 1 ≤ i → i ≤ k → k ≤ s.count → number_at_place s i ≤ number_at_place s k
 up_order s i k up small low le high =
     omega (arith, up_at s i up small low (omega arith), up_at s k up small (omega arith) high, mul-le-mul_right {m = i - 1} {n = k - 1} (unsigned_abs s.step) (omega arith))
 
-down_order : (s : Span3) (i k : ℕ) → s.step <ℤ pos 0 → IsSmallSpan s → 1 ≤ i → i ≤ k → k ≤ s.count → number_at_place s k ≤ number_at_place s i
+pub down_order : (s : Span3) (i k : ℕ) → s.step <ℤ pos 0 → IsSmallSpan s → 1 ≤ i → i ≤ k → k ≤ s.count → number_at_place s k ≤ number_at_place s i
 down_order s i k down small low le high =
     omega (arith, down_at s i down small low (omega arith), down_at s k down small (omega arith) high, mul-le-mul_right {m = i - 1} {n = k - 1} (unsigned_abs s.step) (omega arith))
 
-order_up : (s : Span3) (i k : ℕ) → pos 0 <ℤ s.step → IsSmallSpan s → 1 ≤ i → i ≤ s.count → 1 ≤ k → k ≤ s.count → number_at_place s i ≤ number_at_place s k → i ≤ k
+pub order_up : (s : Span3) (i k : ℕ) → pos 0 <ℤ s.step → IsSmallSpan s → 1 ≤ i → i ≤ s.count → 1 ≤ k → k ≤ s.count → number_at_place s i ≤ number_at_place s k → i ≤ k
 order_up s i k up small low_i high_i low_k high_k le =
     let few : i - 1 ≤ k - 1 = le_of_mul-le-mul_right {m = i - 1} {n = k - 1} {k = unsigned_abs s.step} (omega (arith, le, up_at s i up small low_i high_i, up_at s k up small low_k high_k)) (size_pos s.step small.2.steps) in
     omega arith
 
-order_down : (s : Span3) (i k : ℕ) → s.step <ℤ pos 0 → IsSmallSpan s → 1 ≤ i → i ≤ s.count → 1 ≤ k → k ≤ s.count → number_at_place s k ≤ number_at_place s i → i ≤ k
+pub order_down : (s : Span3) (i k : ℕ) → s.step <ℤ pos 0 → IsSmallSpan s → 1 ≤ i → i ≤ s.count → 1 ≤ k → k ≤ s.count → number_at_place s k ≤ number_at_place s i → i ≤ k
 order_down s i k down small low_i high_i low_k high_k le =
     let few : i - 1 ≤ k - 1 = le_of_mul-le-mul_right {m = i - 1} {n = k - 1} {k = unsigned_abs s.step} (omega (arith, le, down_at s i down small low_i high_i, down_at s k down small low_k high_k)) (size_pos s.step small.2.steps) in
     omega arith
@@ -118,4 +118,28 @@ between_places s p q i small low le high low_i high_i above below = ⊎_elim
     (λ down.
     let fall = down_order s p q down small low le high in
     (order_down s p i down small low (omega arith) low_i high_i (omega arith), order_down s i q down small low_i high_i (omega arith) high (omega arith)))
+    (step_cases s.step small.2.steps)
+
+-- in steps of 1 each number between the least and the greatest is one
+solid_up : (s : Span3) (x : ℕ) → pos 0 <ℤ s.step → IsSmallSpan s → 0 < s.count → unsigned_abs s.step ≡ 1 → min (number_at_place s 1) (number_at_place s s.count) ≤ x → x ≤ max (number_at_place s 1) (number_at_place s s.count) → IsIn s x
+solid_up s x up small some one low high =
+    let first = up_at s 1 up small (omega arith) (omega arith) in
+    let last = up_at s s.count up small (omega arith) (omega arith) in
+    let way : (x - s.first) * unsigned_abs s.step ≡ (x - s.first) * 1 = ap (λ (k : ℕ). (x - s.first) * k) one in
+    let all : (s.count - 1) * unsigned_abs s.step ≡ (s.count - 1) * 1 = ap (λ (k : ℕ). (s.count - 1) * k) one in
+    run_up s x up small some (x - s.first, omega (arith, first, last, way, all, low)) (omega (arith, first, last, all, high))
+
+solid_down : (s : Span3) (x : ℕ) → s.step <ℤ pos 0 → IsSmallSpan s → 0 < s.count → unsigned_abs s.step ≡ 1 → min (number_at_place s 1) (number_at_place s s.count) ≤ x → x ≤ max (number_at_place s 1) (number_at_place s s.count) → IsIn s x
+solid_down s x down small some one low high =
+    let first = down_at s 1 down small (omega arith) (omega arith) in
+    let last = down_at s s.count down small (omega arith) (omega arith) in
+    let n = x - (s.first - (s.count - 1) * unsigned_abs s.step) in
+    let way : n * unsigned_abs s.step ≡ n * 1 = ap (λ (k : ℕ). n * k) one in
+    let all : (s.count - 1) * unsigned_abs s.step ≡ (s.count - 1) * 1 = ap (λ (k : ℕ). (s.count - 1) * k) one in
+    run_down s x down small some (n, omega (arith, first, last, way, all, low)) (omega (arith, first, last, all, high))
+
+pub solid_in : (s : Span3) (x : ℕ) → IsSmallSpan s → 0 < s.count → unsigned_abs s.step ≡ 1 → min (number_at_place s 1) (number_at_place s s.count) ≤ x → x ≤ max (number_at_place s 1) (number_at_place s s.count) → IsIn s x
+solid_in s x small some one low high = ⊎_elim
+    (λ up. solid_up s x up small some one low high)
+    (λ down. solid_down s x down small some one low high)
     (step_cases s.step small.2.steps)

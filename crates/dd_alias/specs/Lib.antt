@@ -6,3 +6,4 @@ pub mod Congruence
 pub mod Runs
 pub mod Places
 pub mod Patterns
+pub mod Lines

@@ -1,5 +1,5 @@
 -- The elements of a view by the numbers of their row and column.
-use Rattle.std.specs.Prelude.{◌≡◌, ◌≢◌, ◌↔◌, ℕ, true}
+use Rattle.std.specs.Prelude.{◌≡◌, ◌≢◌, ◌↔◌, ℕ, true, unsigned_abs}
 use Rattle.dd_views.specs.declared.part.Part.TheVariants.{All}
 use Rattle.dd_views.specs.declared.span3.Span3.{Span3}
 use Rattle.dd_views.specs.declared.view.View.{View}
@@ -32,6 +32,10 @@ HasElement p r c = (i : ℕ) × (j : ℕ) × IsKeptAt p r c i j
 -- the run has the numbers that both spans have, and no other
 abbrev pub AreCommon : Span3 → Span3 → Run → Type 0
 AreCommon a b run = (x : ℕ) → HasNumber run x ↔ (IsIn a x × IsIn b x)
+
+-- the view is whole, in steps of 1 or -1
+abbrev pub IsSolid : View → Type 0
+IsSolid v = (v.part ≡ All) × (unsigned_abs v.rows.step ≡ 1) × (unsigned_abs v.cols.step ≡ 1)
 
 -- both patterns have an element in the column
 abbrev pub MeetsIn : Pattern → Pattern → ℕ → Type 0

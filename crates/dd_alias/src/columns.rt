@@ -1,10 +1,17 @@
-//! What the columns of a part keep.
-ghost use Rattle.std.specs.Prelude.{◌≡◌, ◌≢◌, ℕ, ◌≤◌, ◌↔◌, true};
+//! What a part keeps.
+ghost use Rattle.std.specs.Prelude.{◌≡◌, ◌≢◌, ℕ, ◌≤◌, ◌<◌, ◌^◌, ◌↔◌, IsTrue, true};
 ghost use Rattle.dd_views.specs.IndexList.{keeps};
 ghost use Rattle.dd_alias.specs.Places.{IsBetween};
 
 use crate::interval::Interval;
 use dd_views::Part;
+
+/// Whether the part is the whole.
+pub fn is_whole(part: Part) -> bool
+    ensures { IsTrue result ↔ (part ≡ Part.All) }
+{
+    matches!(part, Part::All)
+}
 
 /// The part that keeps at row j and column i what the given one keeps at row i and column j.
 pub fn flip(part: Part) -> Part
@@ -21,33 +28,34 @@ pub fn flip(part: Part) -> Part
     }
 }
 
-/// Between which places the rows stand that the column at a place keeps, of so many rows.
-pub fn kept_places(part: Part, col: u64, rows: u32) -> Interval
-    requires first { 1 ≤ col }
-    requires last { part ≢ Part.All → col ≤ rows }
-    ensures low { 1 ≤ result.low }
-    ensures high { result.high ≤ rows }
-    ensures exact { (i : ℕ) → 1 ≤ i → i ≤ rows → (keeps part i col ≡ true) ↔ IsBetween result i }
+/// Between which numbers the rows stand that a part keeps, up to the last one, where the diagonal is at a row.
+pub fn kept(part: Part, diagonal: u64, last: u64) -> Interval
+    requires low { part ≢ Part.All → 1 ≤ diagonal }
+    requires high { part ≢ Part.All → diagonal ≤ last }
+    requires small { last < 2 ^ 63 }
+    ensures { (r : ℕ) → 1 ≤ r → r ≤ last → (keeps part r diagonal ≡ true) ↔ IsBetween result r }
 {
-    let last = u64::from(rows);
     match part {
         Part::All => Interval { low: 1, high: last },
         Part::Lower => Interval {
-            low: col,
+            low: diagonal,
             high: last,
         },
-        Part::Upper => Interval { low: 1, high: col },
+        Part::Upper => Interval {
+            low: 1,
+            high: diagonal,
+        },
         Part::UnitLower => Interval {
-            low: col + 1,
+            low: diagonal + 1,
             high: last,
         },
         Part::UnitUpper => Interval {
             low: 1,
-            high: col - 1,
+            high: diagonal - 1,
         },
         Part::Diag => Interval {
-            low: col,
-            high: col,
+            low: diagonal,
+            high: diagonal,
         },
     }
 }

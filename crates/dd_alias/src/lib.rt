@@ -22,11 +22,13 @@
 //! `specs/Overlap.antt` are cited by private contracts alone.
 #![tactic(auto)]
 
+mod band;
 mod columns;
 mod conflicts;
 mod congruence;
 mod dependencies;
 mod interval;
+mod line;
 mod meeting;
 mod pattern;
 mod place;

@@ -1,14 +1,17 @@
 //! Whether two views share an element.
-ghost use Rattle.std.specs.Prelude.{◌≡◌, ◌↔◌, IsTrue};
+ghost use Rattle.std.specs.Prelude.{◌≡◌, ℕ, ◌≤◌, ◌↔◌, IsTrue};
 ghost use Rattle.dd_views.specs.Views.{IsView};
+ghost use Rattle.dd_alias.specs.Lines.{IsTurn, IsWithin, KeepBoth};
 ghost use Rattle.dd_alias.specs.Overlap.{Overlaps};
-ghost use Rattle.dd_alias.specs.Patterns.{AreCommon, IsPattern, Meets, MeetsIn};
-ghost use Rattle.dd_alias.specs.Places.{IsIn};
+ghost use Rattle.dd_alias.specs.Patterns.{AreCommon, IsPattern, IsSolid, Meets, pattern_of};
+ghost use Rattle.dd_alias.specs.Runs.{HasNumber};
 
+use crate::band::Band;
+use crate::columns::is_whole;
 use crate::pattern::Pattern;
-use crate::place::run_of;
+use crate::place::{are_apart, run_of, stride};
 use crate::run::Run;
-use crate::shared::{are_apart, common};
+use crate::shared::common;
 use dd_views::View;
 
 /// Whether both views are of one array and share a position of it, where views of one array have one height.
@@ -25,9 +28,33 @@ pub fn overlap(a: &View, b: &View) -> bool
     if a.height == 0 {
         return false;
     }
-    let of_a = Pattern::of(a);
-    let of_b = Pattern::of(b);
-    meet(&of_a, &of_b)
+    share(a, b)
+}
+
+/// Whether the rows and columns of both meet in an element that both have. Most views are apart, or whole ones in steps of 1,
+/// and need no more than the least and the greatest numbers.
+fn share(a: &View, b: &View) -> bool
+    requires a { IsPattern (pattern_of a.now) }
+    requires b { IsPattern (pattern_of b.now) }
+    ensures { IsTrue result ↔ Meets (pattern_of a.now) (pattern_of b.now) }
+{
+    if are_apart(&a.rows, &b.rows) {
+        return false;
+    }
+    if are_apart(&a.cols, &b.cols) {
+        return false;
+    }
+    if is_solid(a) && is_solid(b) {
+        return true;
+    }
+    meet(&Pattern::of(a), &Pattern::of(b))
+}
+
+/// Whether a view has all elements between its least and greatest numbers.
+fn is_solid(view: &View) -> bool
+    ensures { IsTrue result → IsSolid view.now }
+{
+    is_whole(view.part) && stride(&view.rows) == 1 && stride(&view.cols) == 1
 }
 
 /// Whether both patterns have an element.
@@ -36,18 +63,8 @@ fn meet(a: &Pattern, b: &Pattern) -> bool
     requires b { IsPattern b.now }
     ensures { IsTrue result ↔ Meets a.now b.now }
 {
-    let rows_of_a = run_of(&a.rows);
-    let rows_of_b = run_of(&b.rows);
-    if are_apart(&rows_of_a, &rows_of_b) {
-        return false;
-    }
-    let cols_of_a = run_of(&a.cols);
-    let cols_of_b = run_of(&b.cols);
-    if are_apart(&cols_of_a, &cols_of_b) {
-        return false;
-    }
-    let rows = common(&rows_of_a, &rows_of_b);
-    let cols = common(&cols_of_a, &cols_of_b);
+    let rows = common(&run_of(&a.rows), &run_of(&b.rows));
+    let cols = common(&run_of(&a.cols), &run_of(&b.cols));
     meet_along_fewer(a, b, &rows, &cols)
 }
 
@@ -75,25 +92,36 @@ fn meet_in_some(a: &Pattern, b: &Pattern, rows: &Run, cols: &Run) -> bool
     requires cols { AreCommon a.now.cols b.now.cols cols.now }
     ensures { IsTrue result ↔ Meets a.now b.now }
 {
+    if a.rows.count == 0 || b.rows.count == 0 {
+        return false;
+    }
+    meet_along(&Band::of(a, cols), &Band::of(b, cols), rows, cols)
+}
+
+/// Whether both bands keep a common row at a turn of the common columns.
+fn meet_along(a: &Band, b: &Band, rows: &Run, cols: &Run) -> bool
+    requires a { (t : ℕ) → IsTurn cols.now t → IsWithin a.now t }
+    requires b { (t : ℕ) → IsTurn cols.now t → IsWithin b.now t }
+    requires rows { (r : ℕ) → HasNumber rows.now r → (1 ≤ r) × (r ≤ a.now.last) × (r ≤ b.now.last) }
+    ensures { IsTrue result ↔ ((t : ℕ) × IsTurn cols.now t × KeepBoth a.now b.now rows.now t) }
+{
     for turn in 0..cols.count() {
-        if meet_in(a, b, rows, cols.number(turn)) {
+        if meet_at(a, b, rows, turn) {
             return true;
         }
     }
     false
 }
 
-/// Whether both patterns have an element in a common column, by their common rows.
-fn meet_in(a: &Pattern, b: &Pattern, rows: &Run, col: u64) -> bool
-    requires a { IsPattern a.now }
-    requires b { IsPattern b.now }
-    requires rows { AreCommon a.now.rows b.now.rows rows.now }
-    requires col_of_a { IsIn a.now.cols col }
-    requires col_of_b { IsIn b.now.cols col }
-    ensures { IsTrue result ↔ MeetsIn a.now b.now col }
+/// Whether both bands keep a common row at a turn.
+fn meet_at(a: &Band, b: &Band, rows: &Run, turn: u64) -> bool
+    requires a { IsWithin a.now turn }
+    requires b { IsWithin b.now turn }
+    requires rows { (r : ℕ) → HasNumber rows.now r → (1 ≤ r) × (r ≤ a.now.last) × (r ≤ b.now.last) }
+    ensures { IsTrue result ↔ KeepBoth a.now b.now rows.now turn }
 {
-    let of_a = a.rows_in(col);
-    let of_b = b.rows_in(col);
+    let of_a = a.rows_at(turn);
+    let of_b = b.rows_at(turn);
     rows.has_between(of_a.low.max(of_b.low), of_a.high.min(of_b.high))
 }
 

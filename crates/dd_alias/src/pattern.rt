@@ -1,8 +1,6 @@
 ghost use Rattle.std.specs.Prelude.{◌≡◌, ℕ, ◌↔◌};
 
-use crate::columns::{flip, kept_places};
-use crate::interval::Interval;
-use crate::place::{number_at, place_of};
+use crate::columns::flip;
 use dd_views::{Part, Span3, View};
 
 /// The rows and columns of a view and the part of them that counts.
@@ -15,7 +13,6 @@ pub struct Pattern {
 
 impl Pattern {
     ghost use Rattle.dd_alias.specs.Patterns.{HasElement, IsPattern, pattern_of};
-    ghost use Rattle.dd_alias.specs.Places.{IsBetween, IsIn};
 
     pub fn of(view: &View) -> Pattern
         ensures { result ≡ pattern_of view.now }
@@ -39,24 +36,6 @@ impl Pattern {
             rows: self.cols,
             cols: self.rows,
             part: flip(self.part),
-        }
-    }
-
-    /// Between which numbers the rows stand that a column keeps.
-    pub fn rows_in(&self, col: u64) -> Interval
-        requires pattern { IsPattern self.now }
-        requires col { IsIn self.now.cols col }
-        ensures { (r : ℕ) → IsIn self.now.rows r → (HasElement self.now r col ↔ IsBetween result r) }
-    {
-        let places = kept_places(self.part, place_of(&self.cols, col), self.rows.count);
-        if places.low > places.high {
-            return Interval { low: 1, high: 0 };
-        }
-        let one = number_at(&self.rows, places.low);
-        let other = number_at(&self.rows, places.high);
-        Interval {
-            low: one.min(other),
-            high: one.max(other),
         }
     }
 }

@@ -1,10 +1,11 @@
 //! The numbers of a span and their places, from 1.
-ghost use Rattle.std.specs.Prelude.{◌≡◌, ℕ, ◌+◌, ◌*◌, ◌/◌, ◌^◌, ◌<◌, ◌≤◌, ◌↔◌, unsigned_abs};
+ghost use Rattle.std.specs.Prelude.{◌≡◌, ℕ, ◌+◌, ◌*◌, ◌/◌, ◌^◌, ◌<◌, ◌≤◌, ◌↔◌, IsTrue, false, unsigned_abs};
 ghost use Rattle.dd_views.specs.IndexList.{number_at_place};
 ghost use Rattle.dd_views.specs.Span.{IsSmallSpan};
-ghost use Rattle.dd_alias.specs.Places.{IsAt, IsIn};
+ghost use Rattle.dd_alias.specs.Places.{IsAt, IsBetween, IsIn};
 ghost use Rattle.dd_alias.specs.Runs.{HasNumber};
 
+use crate::interval::Interval;
 use crate::run::Run;
 use dd_views::Span3;
 
@@ -31,6 +32,38 @@ pub fn run_of(span: &Span3) -> Run
         stride,
         limit: first,
     }
+}
+
+/// Between which numbers those of a span stand.
+pub fn bounds(span: &Span3) -> Interval
+    requires span { IsSmallSpan span.now }
+    requires some { 0 < span.now.count }
+    ensures within { (x : ℕ) → IsIn span.now x → IsBetween result x }
+    ensures solid { unsigned_abs span.now.step ≡ 1 → (x : ℕ) → IsBetween result x → IsIn span.now x }
+    ensures order { result.low ≤ result.high }
+    ensures small { result.high < 2 ^ 63 }
+{
+    let one = number_at(span, 1);
+    let other = number_at(span, u64::from(span.count));
+    Interval {
+        low: one.min(other),
+        high: one.max(other),
+    }
+}
+
+/// Whether all numbers of one span are below all of the other, or one has none.
+pub fn are_apart(a: &Span3, b: &Span3) -> bool
+    requires a { IsSmallSpan a.now }
+    requires b { IsSmallSpan b.now }
+    ensures apart { IsTrue result → (x : ℕ) → IsIn a.now x → IsIn b.now x → ⊥ }
+    ensures solid { result ≡ false → unsigned_abs a.now.step ≡ 1 → unsigned_abs b.now.step ≡ 1 → (x : ℕ) × IsIn a.now x × IsIn b.now x }
+{
+    if a.count == 0 || b.count == 0 {
+        return true;
+    }
+    let of_a = bounds(a);
+    let of_b = bounds(b);
+    of_a.high < of_b.low || of_b.high < of_a.low
 }
 
 /// The number at a place.
@@ -60,14 +93,14 @@ pub fn place_of(span: &Span3, number: u64) -> u64
 }
 
 /// The size of the step.
-fn stride(span: &Span3) -> u64
+pub fn stride(span: &Span3) -> u64
     ensures { result ≡ unsigned_abs span.now.step }
 {
     span.step.unsigned_abs()
 }
 
 /// A quotient. Most views have steps of 1, and a test is faster than a division.
-fn quotient(number: u64, divisor: u64) -> u64
+pub fn quotient(number: u64, divisor: u64) -> u64
     requires { 0 < divisor }
     ensures { result ≡ number / divisor }
 {

@@ -1,16 +1,9 @@
 //! What two runs of numbers have in common.
-ghost use Rattle.std.specs.Prelude.{◌≡◌, ℕ, ◌^◌, ◌≤◌, ◌↔◌, IsTrue, MatchOption};
+ghost use Rattle.std.specs.Prelude.{◌≡◌, ℕ, ◌^◌, ◌≤◌, ◌↔◌, MatchOption};
 ghost use Rattle.dd_alias.specs.Runs.{HasNumber, IsAhead, IsFirstCommon};
 
 use crate::congruence::{complement, least_common, least_turns};
 use crate::run::Run;
-
-/// Whether all numbers of one are below all of the other, or there are none.
-pub fn are_apart(a: &Run, b: &Run) -> bool
-    ensures { IsTrue result → (x : ℕ) → HasNumber a.now x → HasNumber b.now x → ⊥ }
-{
-    a.limit < b.first.max(a.first) || b.limit < a.first.max(b.first)
-}
 
 /// The numbers that both have.
 pub fn common(a: &Run, b: &Run) -> Run

@@ -1,4 +1,4 @@
-use Rattle.std.proofs.Common.{◌≡◌, ℕ, ◌<◌, refl, arith, below_more}
+use Rattle.std.proofs.Common.{refl, arith, below_more}
 use Rattle.dd_blocks.specs.declared.access_row.AccessRow.{AccessRow}
 use Rattle.dd_alias.specs.Clashes.{ClashesWithSome}
 use Rattle.dd_alias.proofs.AnyLemmas.{any_at, no_access, none_any}

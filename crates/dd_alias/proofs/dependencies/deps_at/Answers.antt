@@ -1,4 +1,4 @@
-use Rattle.std.proofs.Common.{◌≡◌, ℕ, ◌+◌, ◌<◌, length, get_or, arith, refl, subst}
+use Rattle.std.proofs.Common.{◌≡◌, ℕ, ◌+◌, arith, refl, subst}
 use Rattle.dd_alias.proofs.FoundLemmas.{AreFound, conflicts_of, found_all, found_more, found_same, no_conflicts_of, task_at}
 use Rattle.dd_alias.proofs.dependencies.deps_at.Goals as goal
 use Rattle.dd_alias.proofs.dependencies.deps_at.Goals.{then-conflict+in_ok-push, else-conflict}
@@ -9,10 +9,10 @@ loop-earlier-preserved c =
     let one = task_at tasks c.loop-earlier.earlier c.index-tasks-earlier.result (omega arith) c.index-tasks-earlier.is in
     let other = task_at tasks c.args.index c.index-tasks-index.result c.requires.index c.index-tasks-index.is in
     elim c.if-conflict.branch [
-      then-conflict+in_ok-push w ↦
-        rw (w.places-is, w.in_ok-push.ensures.items) (found_more tasks (c.args.index + 1) c.loop-earlier.earlier c.loop-earlier.places.items c.loop-earlier.invariant (conflicts_of tasks _ _ _ _ one other (w.if-conflict.ensures.0 refl)))
+      | then-conflict+in_ok-push w ↦
+          rw (w.places-is, w.in_ok-push.ensures.items) (found_more tasks (c.args.index + 1) c.loop-earlier.earlier c.loop-earlier.places.items c.loop-earlier.invariant (conflicts_of tasks _ _ _ _ one other (w.if-conflict.ensures.0 refl)))
       | else-conflict w ↦
-        rw w.places-is (found_same tasks (c.args.index + 1) c.loop-earlier.earlier c.loop-earlier.places.items c.loop-earlier.invariant (no_conflicts_of tasks _ _ _ _ one other (λ found. let e = w.if-conflict.ensures.1 found in absurd (cc))))
+          rw w.places-is (found_same tasks (c.args.index + 1) c.loop-earlier.earlier c.loop-earlier.places.items c.loop-earlier.invariant (no_conflicts_of tasks _ _ _ _ one other (λ found. let e = w.if-conflict.ensures.1 found in absurd (cc))))
     ]
 
 pub returns : goal.returns

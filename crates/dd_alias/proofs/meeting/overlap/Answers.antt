@@ -9,20 +9,19 @@ returns-then-a-eq0 c = (
   (λ overlaps. absurd (no_rows c.args.a.now overlaps.1.0 c.requires.a c.if-a-eq0.true overlaps.1.1)),
 )
 
-pub meet-requires-clause-a : goal.meet-requires-clause-a
-meet-requires-clause-a c = rw c.of-of_a.ensures (is_pattern c.args.a.now c.requires.a (omega arith) (omega arith))
+pub share-requires-clause-a : goal.share-requires-clause-a
+share-requires-clause-a c = is_pattern c.args.a.now c.requires.a (omega arith) (omega arith)
 
-pub meet-requires-clause-b : goal.meet-requires-clause-b
-meet-requires-clause-b c =
+pub share-requires-clause-b : goal.share-requires-clause-b
+share-requires-clause-b c =
     let array : c.args.a.now.array ≡ c.args.b.now.array = omega arith in
     let height = c.requires.height array in
-    rw c.of-of_b.ensures (is_pattern c.args.b.now c.requires.b (omega (arith, height)) (omega (arith, height)))
+    is_pattern c.args.b.now c.requires.b (omega (arith, height)) (omega (arith, height))
 
 pub returns : goal.returns
 returns c =
     let array : c.args.a.now.array ≡ c.args.b.now.array = omega arith in
-    let height = c.requires.height array in
-    let meets = rw (c.of-of_a.ensures, c.of-of_b.ensures) at c.meet.ensures in (
-      (λ yes. (array, meets_shared c.args.a.now c.args.b.now height (meets.0 yes))),
-      (λ overlaps. meets.1 (shared_meets c.args.a.now c.args.b.now c.requires.a c.requires.b height overlaps.1)),
+    let height = c.requires.height array in (
+      (λ yes. (array, meets_shared c.args.a.now c.args.b.now height (c.share.ensures.0 yes))),
+      (λ overlaps. c.share.ensures.1 (shared_meets c.args.a.now c.args.b.now c.requires.a c.requires.b height overlaps.1)),
     )

@@ -1,0 +1,65 @@
+-- The rows that a pattern keeps, by the row on the diagonal of each common column.
+use Rattle.std.specs.Prelude.{◌≡◌, ◌≢◌, ◌⊎◌, ◌↔◌, ℕ, pos, ◌<ℤ◌, ◌+◌, ◌*◌, ◌-◌, ◌^◌, ◌<◌, ◌≤◌, true, false, if◌then◌else◌}
+use Rattle.dd_views.specs.declared.part.Part.{Part}
+use Rattle.dd_views.specs.declared.part.Part.TheVariants.{All}
+use Rattle.dd_views.specs.declared.span3.Span3.{Span3}
+use Rattle.dd_views.specs.IndexList.{keeps}
+use Rattle.dd_alias.specs.declared.band.Band.{Band}
+use Rattle.dd_alias.specs.declared.line.Line.{Line}
+use Rattle.dd_alias.specs.declared.pattern.Pattern.{Pattern}
+use Rattle.dd_alias.specs.declared.run.Run.{Run}
+use Rattle.dd_alias.specs.Places.{IsAt, IsIn}
+use Rattle.dd_alias.specs.Runs.{HasNumber}
+
+-- both spans rise, or both fall
+abbrev pub AreAlike : Span3 → Span3 → Type 0
+AreAlike a b = ((pos 0 <ℤ a.step) × (pos 0 <ℤ b.step)) ⊎ ((a.step <ℤ pos 0) × (b.step <ℤ pos 0))
+
+abbrev pub AreUnlike : Span3 → Span3 → Type 0
+AreUnlike a b = ((pos 0 <ℤ a.step) × (b.step <ℤ pos 0)) ⊎ ((a.step <ℤ pos 0) × (pos 0 <ℤ b.step))
+
+abbrev pub line_at : Line → ℕ → ℕ
+line_at l t = if l.rises then l.first + t * l.stride else l.first - t * l.stride
+
+-- the line doesn't leave the numbers of 63 bits before the turn
+pub record Reaches (l : Line) (t : ℕ) : Type 0 where
+  pub up : l.rises ≡ true → l.first + t * l.stride < 2 ^ 63
+  pub down : l.rises ≡ false → t * l.stride ≤ l.first
+
+-- the number of a run at a turn, from 0
+abbrev pub run_at : Run → ℕ → ℕ
+run_at r t = r.first + t * r.stride
+
+abbrev pub IsTurn : Run → ℕ → Type 0
+IsTurn r t = run_at r t ≤ r.limit
+
+-- at each turn the line is at the row whose place is that of the column
+pub record IsDiagonal (p : Pattern) (cols : Run) (l : Line) : Type 0 where
+  pub reaches : (t : ℕ) → IsTurn cols t → Reaches l t
+  pub at : (t j : ℕ) → p.part ≢ All → IsTurn cols t → IsAt p.cols (run_at cols t) j → IsAt p.rows (line_at l t) j
+
+-- what the part keeps by places, the other keeps by the numbers of rows
+abbrev pub IsFacing : Pattern → Part → Type 0
+IsFacing p part = (x y i j : ℕ) → IsAt p.rows x i → IsAt p.rows y j → (keeps p.part i j ≡ true) ↔ (keeps part x y ≡ true)
+
+pub record IsBand (p : Pattern) (cols : Run) (b : Band) : Type 0 where
+  pub whole : (p.part ≡ All) ↔ (b.part ≡ All)
+  pub facing : IsFacing p b.part
+  pub diagonal : IsDiagonal p cols b.diagonal
+  pub last : (x : ℕ) → IsIn p.rows x → x ≤ b.last
+  pub small : b.last < 2 ^ 63
+
+-- the band keeps the row at the turn
+abbrev pub KeepsAt : Band → ℕ → ℕ → Type 0
+KeepsAt b t row = keeps b.part row (line_at b.diagonal t) ≡ true
+
+-- the diagonal is at a row of the band
+pub record IsWithin (b : Band) (t : ℕ) : Type 0 where
+  pub reaches : Reaches b.diagonal t
+  pub low : b.part ≢ All → 1 ≤ line_at b.diagonal t
+  pub high : b.part ≢ All → line_at b.diagonal t ≤ b.last
+  pub small : b.last < 2 ^ 63
+
+-- both bands keep a row of the run at the turn
+abbrev pub KeepBoth : Band → Band → Run → ℕ → Type 0
+KeepBoth a b rows t = (r : ℕ) × HasNumber rows r × KeepsAt a t r × KeepsAt b t r
