@@ -1,12 +1,12 @@
 -- What a part keeps by places, and by the numbers of rows.
-use Rattle.std.proofs.Common.{◌≡◌, ◌≢◌, ◌⊎◌, ◌↔◌, ℕ, ◌≤◌, ◌<◌, ◌+◌, ◌*◌, ◌-◌, true, pos, ◌<ℤ◌, ⊎_elim, refl, ap, sym, subst, arith, unsigned_abs, min, max}
+use Rattle.std.proofs.Common.{◌≡◌, ◌↔◌, ℕ, ◌≤◌, true, pos, ◌<ℤ◌, arith}
 use Rattle.std.proofs.lemmas.Bool.Decides.{nat_tests}
 use Rattle.dd_views.specs.declared.part.Part.{Part}
 use Rattle.dd_views.specs.declared.part.Part.TheVariants.{All, Lower, Upper, UnitLower, UnitUpper, Diag}
 use Rattle.dd_views.specs.declared.span3.Span3.{Span3}
-use Rattle.dd_views.specs.IndexList.{keeps, number_at_place}
+use Rattle.dd_views.specs.IndexList.{keeps}
 use Rattle.dd_views.specs.Span.{IsSmallSpan}
-use Rattle.dd_alias.specs.Places.{IsAt, IsIn}
+use Rattle.dd_alias.specs.Places.{IsAt}
 use Rattle.dd_alias.proofs.PlaceLemmas.{down_order, order_down, order_up, up_order}
 
 -- a part keeps the same of numbers that stand in the same order

@@ -1,6 +1,5 @@
 -- How the row on the diagonal moves with the column.
-use Rattle.std.proofs.Common.{◌≡◌, ◌≢◌, ◌⊎◌, ◌↔◌, ℕ, ◌≤◌, ◌<◌, ◌+◌, ◌*◌, ◌-◌, ◌/◌, ◌^◌, Bool, true, false, zero, suc, pos, ◌<ℤ◌, ⊎_elim, refl, ap, sym, ◌∙◌, subst, arith, unsigned_abs, min}
-use Rattle.std.proofs.lemmas.Bool.{cases_eq}
+use Rattle.std.proofs.Common.{◌≡◌, ◌≢◌, ℕ, ◌≤◌, ◌<◌, ◌+◌, ◌*◌, ◌-◌, ◌/◌, ◌^◌, Bool, true, false, zero, suc, pos, ◌<ℤ◌, ⊎_elim, refl, ap, sym, ◌∙◌, subst, arith, unsigned_abs, min}
 use Rattle.std.proofs.lemmas.Int.{ints}
 use Rattle.std.specs.Bool.{MatchBool}
 use Rattle.std.proofs.Math.Nat.{mul-le-mul_right}
@@ -18,7 +17,7 @@ use Rattle.dd_alias.specs.Patterns.{IsPattern}
 use Rattle.dd_alias.specs.Places.{IsAt, IsIn}
 use Rattle.dd_alias.specs.Runs.{HasNumber}
 use Rattle.dd_alias.proofs.BandLemmas.{falling_order, rising_order}
-use Rattle.dd_alias.proofs.PlaceLemmas.{down_at, place_is, steps_sum, up_at}
+use Rattle.dd_alias.proofs.PlaceLemmas.{down_at, steps_sum, up_at}
 
 -- b is w beyond a where a line rises, and else w below it
 abbrev pub Moves : Bool → ℕ → ℕ → ℕ → Type 0

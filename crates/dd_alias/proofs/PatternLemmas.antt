@@ -9,7 +9,7 @@ use Rattle.dd_alias.specs.declared.pattern.Pattern.{Pattern}
 use Rattle.dd_alias.specs.declared.run.Run.{Run}
 use Rattle.dd_alias.specs.Lines.{IsBand, IsTurn, IsWithin, KeepBoth, KeepsAt, line_at, run_at}
 use Rattle.dd_alias.specs.Patterns.{HasElement, IsPattern, MeetsIn}
-use Rattle.dd_alias.specs.Places.{IsAt, IsIn}
+use Rattle.dd_alias.specs.Places.{IsIn}
 use Rattle.dd_alias.specs.Runs.{HasNumber}
 use Rattle.dd_alias.proofs.LineLemmas.{number_above}
 

@@ -67,12 +67,4 @@ impl Run {
             (self.limit - self.first) / self.stride + 1
         }
     }
-
-    /// The number at a turn, from 0.
-    pub fn number(&self, turn: u64) -> u64
-        requires { self.now.first + turn * self.now.stride ≤ self.now.limit }
-        ensures { result ≡ self.now.first + turn * self.now.stride }
-    {
-        self.first + turn * self.stride
-    }
 }

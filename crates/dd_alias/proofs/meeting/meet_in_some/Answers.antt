@@ -1,4 +1,4 @@
-use Rattle.std.proofs.Common.{◌≡◌, ℕ, ◌≤◌, subst}
+use Rattle.std.proofs.Common.{ℕ, ◌≤◌, subst}
 use Rattle.dd_alias.specs.Lines.{run_at}
 use Rattle.dd_alias.specs.Patterns.{MeetsIn}
 use Rattle.dd_alias.proofs.PatternLemmas.{both_meet, first_band_at, row_above, second_band_at, within_of}
