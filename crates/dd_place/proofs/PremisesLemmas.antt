@@ -1,17 +1,16 @@
 -- A well-formed Plan has what a placement asks of it.
-use Rattle.std.proofs.Common.{◌≡◌, ℕ, zero, suc, ◌+◌, ◌<◌, ◌≤◌, List, length, get_or, take, map, sym, ap, ◌∙◌, arith, refl, []}
-use Rattle.std.specs.List.{All, flat_map, range_with_len, sum_by}
-use Rattle.std.proofs.lemmas.List.{length-map, take_all}
+use Rattle.std.proofs.Common.{◌≡◌, ℕ, zero, suc, ◌+◌, ◌<◌, ◌≤◌, List, length, get_or, take, sym, ap, ◌∙◌, arith, refl}
+use Rattle.std.specs.List.{range_with_len, sum_by}
+use Rattle.std.proofs.lemmas.List.{take_all}
 use Rattle.std.proofs.lemmas.List.Concat.{length-flat_map}
 use Rattle.std.proofs.lemmas.List.Elements.{All-from_get_or}
-use Rattle.std.proofs.lemmas.List.FromFn.{length-range_with_len, length-map-range_with_len}
+use Rattle.std.proofs.lemmas.List.FromFn.{length-map-range_with_len}
 use Rattle.std.proofs.lemmas.List.Sums.{sum_by_more, sum_by_more_le, sum_by_push}
 use Rattle.dd_views.proofs.ListsLemmas.{range_with_len_more}
 use Rattle.dd_blocks.specs.declared.array_row.ArrayRow.{ArrayRow}
-use Rattle.dd_blocks.specs.declared.block_row.BlockRow.{BlockRow}
 use Rattle.dd_blocks.specs.declared.plan.Plan.{Plan}
-use Rattle.dd_blocks.specs.Grids.{block_count, block_size}
-use Rattle.dd_blocks.specs.Layout.{IsLaidOut, StandsBehind, blocks_in, blocks_of_array, blocks_of_arrays}
+use Rattle.dd_blocks.specs.Grids.{block_count}
+use Rattle.dd_blocks.specs.Layout.{IsLaidOut, StandsBehind, blocks_in, blocks_of_arrays}
 use Rattle.dd_blocks.specs.Lives.{regions_run}
 use Rattle.dd_blocks.specs.Numbered.{no_array, numbered}
 use Rattle.dd_blocks.specs.WellFormed.{IsWellFormed}

@@ -1,5 +1,5 @@
 -- What the search for the least loaded processor goes by.
-use Rattle.std.specs.Prelude.{◌≡◌, ℕ, ◌≤◌, nat_eq, nat_le, Bool, true, cond, List, [], length, MatchOption, Option, None, Some}
+use Rattle.std.specs.Prelude.{◌≡◌, ℕ, ◌≤◌, nat_eq, nat_le, Bool, true, cond, List, [], MatchOption, Option, None, Some}
 use Rattle.std.specs.List.{filter, range_with_len}
 use Rattle.dd_blocks.specs.declared.proc_row.ProcRow.{ProcRow}
 use Rattle.dd_blocks.specs.Numbered.{numbered}

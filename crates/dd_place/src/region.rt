@@ -31,7 +31,7 @@ pub fn row_of_region(rows: &[StatementRow], region: u32) -> u32
 }
 
 /// The region that a statement runs.
-fn region_run(what: &What) -> Option<u32>
+pub fn region_run(what: &What) -> Option<u32>
     ensures { result ≡ region_run what.now }
 {
     match what {

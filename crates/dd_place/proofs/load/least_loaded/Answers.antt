@@ -1,4 +1,4 @@
-use Rattle.std.proofs.Common.{sym, ap, ◌∙◌, get_or, arith}
+use Rattle.std.proofs.Common.{sym, ap, ◌∙◌}
 use Rattle.std.proofs.lemmas.List.{get_or_read}
 use Rattle.dd_place.specs.Chosen.{is_of}
 use Rattle.dd_place.proofs.LoadsLemmas.{best_more, best_same, no_proc}
