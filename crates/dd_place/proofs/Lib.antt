@@ -4,3 +4,4 @@ pub mod LoadsLemmas
 pub mod OneLemmas
 pub mod RisingLemmas
 pub mod PremisesLemmas
+mod PlacementExamples

@@ -10,7 +10,10 @@ use crate::load::least_loaded_for;
 use crate::region::row_of_region;
 use dd_blocks::{Plan, Rule, TaskRow};
 
-/// The number of the processor that a task gets, by the processors of the earlier tasks of its region.
+/// The number, from 1, of the processor that a task gets. It takes no memory.
+///
+/// `earlier` has the processors of the tasks above it in its region. The region of the task is one that a row of the
+/// Plan runs, or the next one. The Plan has all rows above the region; those below it don't count.
 pub fn place(plan: &Plan, earlier: &[u32], task: &TaskRow) -> u32
     requires plan { CanPlace plan.now }
     requires accesses { All (IsOfPlan plan.now) task.now.accesses }
