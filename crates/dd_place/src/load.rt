@@ -24,10 +24,10 @@ pub fn least_loaded_for(plan: &Plan, space: u32, earlier: &[u32]) -> u32
     if let Some(load) = least_loaded(procs, Some(space), earlier) {
         return load.proc;
     }
-    let Some(load) = least_loaded(procs, None, earlier) else {
-        return 1;
-    };
-    load.proc
+    match least_loaded(procs, None, earlier) {
+        Some(load) => load.proc,
+        None => unreachable!(),
+    }
 }
 
 /// The processor with the fewest tasks among those of a space, or among all where no space is given.
