@@ -20,7 +20,7 @@ use Rattle.dd_blocks.specs.declared.what.What.{What}
 use Rattle.dd_blocks.specs.declared.what.What.TheVariants.{MoveTo, Put, Region}
 use Rattle.dd_place.specs.Leading.{leading_block, space_for}
 use Rattle.dd_place.specs.Loads.{candidates, tasks_on}
-use Rattle.dd_place.specs.Regions.{home_when_begins, row_of_region}
+use Rattle.dd_blocks.specs.Homes.{home_in_region, row_of_region}
 
 abbrev row : What → StatementRow
 row what = record { line = 1; what = what }
@@ -47,7 +47,7 @@ plan = record {
 rows : map (row_of_region plan) (range_with_len 1 3) ≡ 2 ∷ 4 ∷ 5 ∷ []
 rows = refl
 
-homes : map (λ region. home_when_begins plan region 3) (range_with_len 1 3) ≡ 3 ∷ 2 ∷ 2 ∷ []
+homes : map (λ region. home_in_region plan region 3) (range_with_len 1 3) ≡ 3 ∷ 2 ∷ 2 ∷ []
 homes = refl
 
 -- of space 1, of space 3, and of space 2, which has none

@@ -1,15 +1,30 @@
 -- The row that runs a region, searched from the last row up.
-use Rattle.std.proofs.Common.{◌≡◌, ◌≢◌, ℕ, ◌+◌, ◌<◌, ◌≤◌, true, false, nat_eq, List, length, get_or, Option, None, Some, ap, ◌∙◌, subst, ⊎_elim, arith}
+use Rattle.std.proofs.Common.{◌≡◌, ◌≢◌, ℕ, ◌+◌, ◌<◌, ◌≤◌, Bool, refl, true, false, nat_eq, List, length, get_or, Option, None, Some, ap, ◌∙◌, subst, ⊎_elim, arith}
 use Rattle.std.specs.List.{AllPairs, position_or_len}
 use Rattle.std.specs.Option.{option_map_or}
 use Rattle.std.proofs.lemmas.Bool.{cases_lt, eq-eqb, eqb-true, false_from_ne_true, false≢true}
 use Rattle.std.proofs.lemmas.List.{get_or_default}
 use Rattle.std.proofs.lemmas.List.Sums.{position_or_len_is}
 use Rattle.dd_blocks.specs.declared.statement_row.StatementRow.{StatementRow}
-use Rattle.dd_blocks.specs.declared.what.What.TheVariants.{Moved}
+use Rattle.dd_blocks.specs.declared.what.What.{What}
+use Rattle.dd_blocks.specs.declared.what.What.TheVariants.{Put, Print, Sum, Moved, Same, Drop, MoveTo, Region}
+use Rattle.dd_blocks.specs.Homes.{runs_region}
 use Rattle.dd_blocks.specs.Lives.{region_run}
 use Rattle.dd_place.specs.Premises.{IsBelow}
-use Rattle.dd_place.specs.Regions.{runs}
+
+abbrev runs : ℕ → StatementRow → Bool
+runs region row = runs_region region row.what
+
+-- the test of a row by the region that it runs
+as_run : (region : ℕ) (what : What) → runs_region region what ≡ option_map_or (λ n. nat_eq n region) (region_run what) false
+as_run region (Put array) = refl
+as_run region (Print array) = refl
+as_run region (Sum array name) = refl
+as_run region Moved = refl
+as_run region (Same array) = refl
+as_run region (Drop array last) = refl
+as_run region (MoveTo array space) = refl
+as_run region (Region run) = refl
 
 -- no row from a place on runs the region
 abbrev pub NoneFrom : ℕ → List StatementRow → ℕ → Type 0
@@ -27,19 +42,19 @@ same_run region run same = rw same (eq-eqb region region (omega arith))
 
 -- above a region there is none of its number or of a higher one
 above : (region : ℕ) (upper lower : StatementRow) (run : ℕ) → IsBelow upper lower → region_run lower.what ≡ Some run → run ≤ region → runs region upper ≡ false
-above region upper lower run below here le = other_run region (region_run upper.what) (λ same. let lt : region < run = below region run same here in absurd (omega arith))
+above region upper lower run below here le = as_run region upper.what ∙ other_run region (region_run upper.what) (λ same. let lt : region < run = below region run same here in absurd (omega arith))
 
 pub row_found : (region : ℕ) (rows : List StatementRow) (i : ℕ) (d : StatementRow) → AllPairs IsBelow rows → i < length rows → region_run (get_or rows i d).what ≡ Some region → position_or_len (runs region) rows ≡ i
 row_found region rows i d pairs lt here = position_or_len_is (runs region) rows i d (omega arith)
     (λ k less. above region (get_or rows k d) (get_or rows i d) region (pairs k i d less lt) here (omega arith))
-    (λ inside. same_run region _ here)
+    (λ inside. as_run region (get_or rows i d).what ∙ same_run region _ here)
 
 pub row_next : (region : ℕ) (rows : List StatementRow) (i : ℕ) (d : StatementRow) → NoneFrom region rows (i + 1) → region_run (get_or rows i d).what ≢ Some region → NoneFrom region rows i
 row_next region rows i d none other = λ k e le lt. ⊎_elim
     (λ (here : k < i + 1).
     let same : i ≡ k = omega arith in
     let row : get_or rows i d ≡ get_or rows k e = get_or_default rows i d e (omega arith) ∙ ap (λ (n : ℕ). get_or rows n e) same in
-    subst (λ (r : StatementRow). runs region r ≡ false) row (other_run region _ other))
+    subst (λ (r : StatementRow). runs region r ≡ false) row (as_run region (get_or rows i d).what ∙ other_run region _ other))
     (λ (beyond : i + 1 ≤ k). none k e beyond lt)
     (cases_lt k (i + 1))
 

@@ -8,7 +8,7 @@ use Rattle.dd_blocks.specs.declared.plan.Plan.{Plan}
 use Rattle.dd_blocks.specs.declared.task_row.TaskRow.{TaskRow}
 use Rattle.dd_blocks.specs.Charges.{block_with}
 use Rattle.dd_blocks.specs.Conflicts.{writes}
-use Rattle.dd_place.specs.Regions.{home_when_begins}
+use Rattle.dd_blocks.specs.Homes.{home_in_region}
 
 -- the block that has the first element of an access, if the access isn't empty
 abbrev pub first_block : Plan → AccessRow → Option ℕ
@@ -27,4 +27,4 @@ leading_block plan task = option_or (first_block_of plan (written task.accesses)
 
 -- the home of that block when the region begins, or else space 1
 abbrev pub space_for : Plan → TaskRow → ℕ
-space_for plan task = option_map_or (home_when_begins plan task.region) (leading_block plan task) 1
+space_for plan task = option_map_or (home_in_region plan task.region) (leading_block plan task) 1

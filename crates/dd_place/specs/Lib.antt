@@ -1,4 +1,3 @@
-pub mod Regions
 pub mod Leading
 pub mod Loads
 pub mod Chosen

@@ -20,7 +20,7 @@
 //!
 //! Inside, `leading` finds the block by which a task finds its space, `region` the row that runs a region, `load` the
 //! least loaded processor, and `processor` joins them. The definitions of a placement stand in
-//! `specs/Placement.antt`, `Leading.antt`, `Loads.antt` and `Regions.antt`, what it asks of a Plan in `Premises.antt`.
+//! `specs/Placement.antt`, `Leading.antt` and `Loads.antt`, what it asks of a Plan in `Premises.antt`.
 //! Those of `specs/Chosen.antt` are cited by private contracts alone. [`laws`] has what holds of all placements.
 #![tactic(auto)]
 

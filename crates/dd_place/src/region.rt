@@ -1,9 +1,10 @@
 //! When a region begins.
 ghost use Rattle.std.specs.Prelude.{◌≡◌, ◌+◌, ◌-◌, ◌^◌, ◌<◌, ◌≤◌, AllPairs, length};
 ghost use Rattle.std.specs.List.{position_or_len};
+ghost use Rattle.dd_blocks.specs.declared.statement_row.StatementRow.{StatementRow};
+ghost use Rattle.dd_blocks.specs.Homes.{runs_region};
 ghost use Rattle.dd_blocks.specs.Lives.{region_run};
 ghost use Rattle.dd_place.specs.Premises.{IsBelow};
-ghost use Rattle.dd_place.specs.Regions.{runs};
 
 use dd_blocks::{StatementRow, What};
 
@@ -12,7 +13,7 @@ use dd_blocks::{StatementRow, What};
 pub fn row_of_region(rows: &[StatementRow], region: u32) -> u32
     requires few { length rows.now < 2 ^ 32 - 1 }
     requires regions { AllPairs IsBelow rows.now }
-    ensures value { result ≡ position_or_len (runs region) rows.now + 1 }
+    ensures value { result ≡ position_or_len (λ (row : StatementRow). runs_region region row.what) rows.now + 1 }
     ensures within { result ≤ length rows.now + 1 }
 {
     let next = rows.len() as u32 + 1;
