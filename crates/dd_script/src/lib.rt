@@ -56,8 +56,3 @@ pub use read::statement_of;
 pub use reader::first_rows;
 pub use row::FirstRow;
 pub use statement::Statement;
-
-#[cfg(test)]
-mod statement_tests;
-#[cfg(test)]
-mod tests;

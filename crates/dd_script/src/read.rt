@@ -76,3 +76,6 @@ pub fn statement_of(
     }
     Ok(Some(statement_by(alloc, line, tokens)?))
 }
+
+#[cfg(test)]
+mod tests;

@@ -83,3 +83,6 @@ pub fn first_rows(alloc: Global, text: &[u8]) -> Result<Vec<FirstRow>, FirstFaul
         None => Ok(rows),
     }
 }
+
+#[cfg(test)]
+mod tests;
