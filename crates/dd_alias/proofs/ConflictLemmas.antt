@@ -1,6 +1,7 @@
 -- Tasks are in conflict where accesses of theirs clash.
 use Rattle.std.proofs.Common.{◌≡◌, ◌↔◌, ℕ, true, [], ◌∷◌, inl, inr, ⊎_elim, refl, sym, ◌∙◌, arith}
 use Rattle.std.specs.List.{Any}
+use Rattle.std.proofs.lemmas.List.Elements.{All-cons, All-nil}
 use Rattle.dd_views.specs.declared.shape.Shape.{Shape}
 use Rattle.dd_blocks.specs.declared.access_row.AccessRow.{AccessRow}
 use Rattle.dd_blocks.specs.declared.task_row.TaskRow.{TaskRow}
@@ -55,3 +56,8 @@ conflict_is_clash u t = (clash_conflict u t, conflict_clash u t)
 
 pub shapes_of_two : (u t : TaskRow) → HaveOneShape (u ∷ t ∷ []) → (shape_at : ℕ → Shape) × AreViewsBy shape_at u.accesses × AreViewsBy shape_at t.accesses
 shapes_of_two u t have = (have.0, have.1 0 no_task (omega arith), have.1 1 no_task (omega arith))
+
+pub two_of_shapes : (shape_at : ℕ → Shape) (u t : TaskRow) → AreViewsBy shape_at u.accesses → AreViewsBy shape_at t.accesses → HaveOneShape (u ∷ t ∷ [])
+two_of_shapes shape_at u t of_u of_t =
+    let P = λ (t : TaskRow). AreViewsBy shape_at t.accesses in
+    (shape_at, All-cons P u (t ∷ []) of_u (All-cons P t [] of_t (All-nil P)))

@@ -4,12 +4,11 @@ use Rattle.std.specs.List.{Contains}
 use Rattle.std.specs.List.Sorted.{IsStrictlyIncreasing}
 use Rattle.std.proofs.lemmas.Bool.{cases_eq, cases_lt}
 use Rattle.std.proofs.lemmas.List.{get_or_append_left, get_or_default, length-append}
-use Rattle.std.proofs.lemmas.List.Elements.{All-cons, All-nil, Contains-append_left, Contains-push, Contains-push_cases}
+use Rattle.std.proofs.lemmas.List.Elements.{Contains-append_left, Contains-push, Contains-push_cases}
 use Rattle.std.proofs.Math.Seq.{get_or-append_seam}
 use Rattle.dd_blocks.specs.declared.task_row.TaskRow.{TaskRow}
 use Rattle.dd_blocks.specs.Conflicts.{AreDependencies, AreInConflict}
 use Rattle.dd_blocks.specs.Numbered.{no_task, numbered}
-use Rattle.dd_alias.specs.Shapes.{AreViewsBy, HaveOneShape}
 
 -- the task numbered u is in conflict with the one numbered t
 abbrev pub Conflicts : List TaskRow → ℕ → ℕ → Type 0
@@ -83,13 +82,6 @@ found_all tasks index found all = record {
 -- the task at an index, by its number
 pub task_at : (tasks : List TaskRow) (i : ℕ) (x : TaskRow) → i < length tasks → x ≡ get_or tasks i x → numbered no_task tasks (i + 1) ≡ x
 task_at tasks i x within is = rw add-one (get_or_default tasks i no_task x within ∙ sym is)
-
-pub shapes_of_pair : (tasks : List TaskRow) (i k : ℕ) (x y : TaskRow) → HaveOneShape tasks → i < length tasks → k < length tasks → x ≡ get_or tasks i x → y ≡ get_or tasks k y → HaveOneShape (x ∷ y ∷ [])
-shapes_of_pair tasks i k x y have within_i within_k is_x is_y =
-    let P = λ (t : TaskRow). AreViewsBy have.0 t.accesses in
-    let of_x : AreViewsBy have.0 x.accesses = subst (λ (t : TaskRow). AreViewsBy have.0 t.accesses) (sym is_x) (have.1 i x within_i) in
-    let of_y : AreViewsBy have.0 y.accesses = subst (λ (t : TaskRow). AreViewsBy have.0 t.accesses) (sym is_y) (have.1 k y within_k) in
-    (have.0, All-cons P x (y ∷ []) of_x (All-cons P y [] of_y (All-nil P)))
 
 pub conflicts_of : (tasks : List TaskRow) (u t : ℕ) (x y : TaskRow) → numbered no_task tasks u ≡ x → numbered no_task tasks t ≡ y → AreInConflict x y → Conflicts tasks u t
 conflicts_of tasks u t x y one other found =

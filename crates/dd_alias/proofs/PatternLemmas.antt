@@ -2,15 +2,13 @@
 use Rattle.std.proofs.Common.{◌≡◌, ◌≢◌, ◌⊎◌, ℕ, ◌≤◌, ◌↔◌, true, inl, inr, ⊎_elim, refl, sym, subst, arith}
 use Rattle.dd_views.specs.declared.part.Part.{Part}
 use Rattle.dd_views.specs.declared.part.Part.TheVariants.{All, Lower, Upper, UnitLower, UnitUpper, Diag}
-use Rattle.dd_views.specs.declared.span3.Span3.{Span3}
 use Rattle.dd_views.specs.IndexList.{keeps}
 use Rattle.dd_alias.specs.declared.band.Band.{Band}
 use Rattle.dd_alias.specs.declared.pattern.Pattern.{Pattern}
 use Rattle.dd_alias.specs.declared.run.Run.{Run}
 use Rattle.dd_alias.specs.Lines.{IsBand, IsTurn, IsWithin, KeepBoth, KeepsAt, line_at, run_at}
-use Rattle.dd_alias.specs.Patterns.{HasElement, IsPattern, MeetsIn}
+use Rattle.dd_alias.specs.Patterns.{AreCommon, HasElement, IsPattern, MeetsIn}
 use Rattle.dd_alias.specs.Places.{IsIn}
-use Rattle.dd_alias.specs.Runs.{HasNumber}
 use Rattle.dd_alias.proofs.LineLemmas.{number_above}
 
 part_cases : (q : Part) → (q ≡ All) ⊎ (q ≢ All)
@@ -67,17 +65,13 @@ kept_element p cols b t r at row kept = (
   },
 )
 
--- a turn of the common columns
-abbrev pub AreBoth : Span3 → Span3 → Run → Type 0
-AreBoth a b run = (x : ℕ) → HasNumber run x ↔ (IsIn a x × IsIn b x)
-
-pub first_band_at : (a b : Pattern) (cols : Run) (of_a : Band) (t : ℕ) → IsPattern a → IsBand a cols of_a → AreBoth a.cols b.cols cols → IsTurn cols t → IsBandAt a cols of_a t
+pub first_band_at : (a b : Pattern) (cols : Run) (of_a : Band) (t : ℕ) → IsPattern a → IsBand a cols of_a → AreCommon a.cols b.cols cols → IsTurn cols t → IsBandAt a cols of_a t
 first_band_at a b cols of_a t pattern band common turn = record { pattern = pattern; band = band; turn = turn; col = ((common (run_at cols t)).0 ((t, refl), turn)).0 }
 
-pub second_band_at : (a b : Pattern) (cols : Run) (of_b : Band) (t : ℕ) → IsPattern b → IsBand b cols of_b → AreBoth a.cols b.cols cols → IsTurn cols t → IsBandAt b cols of_b t
+pub second_band_at : (a b : Pattern) (cols : Run) (of_b : Band) (t : ℕ) → IsPattern b → IsBand b cols of_b → AreCommon a.cols b.cols cols → IsTurn cols t → IsBandAt b cols of_b t
 second_band_at a b cols of_b t pattern band common turn = record { pattern = pattern; band = band; turn = turn; col = ((common (run_at cols t)).0 ((t, refl), turn)).1 }
 
-pub both_meet : (a b : Pattern) (cols rows : Run) (of_a of_b : Band) (t : ℕ) → IsBandAt a cols of_a t → IsBandAt b cols of_b t → AreBoth a.rows b.rows rows → KeepBoth of_a of_b rows t ↔ MeetsIn a b (run_at cols t)
+pub both_meet : (a b : Pattern) (cols rows : Run) (of_a of_b : Band) (t : ℕ) → IsBandAt a cols of_a t → IsBandAt b cols of_b t → AreCommon a.rows b.rows rows → KeepBoth of_a of_b rows t ↔ MeetsIn a b (run_at cols t)
 both_meet a b cols rows of_a of_b t at_a at_b common = (
   (λ both.
       let row = (common both.0).0 both.1 in

@@ -38,3 +38,6 @@ fn deps_at(alloc: Global, tasks: &[TaskRow], index: usize) -> Result<Items<u32>,
     }
     Ok(Items::of(places))
 }
+
+#[cfg(test)]
+mod tests;

@@ -1,4 +1,4 @@
-//! Which views share an element.
+//! Which views share an element, and which tasks must wait for which.
 //!
 //! ```text
 //! let lower = view_of(1, shape, Range::All, Range::All, Part::Lower)?;
@@ -6,20 +6,29 @@
 //! overlap(&lower, &upper)         // false: one has the diagonal, the other what is above it
 //! ```
 //!
-//! [`overlap`] is true exactly where both views are of one array and their lists of positions share one. It
-//! takes no memory and never lists elements. The rows of both views are numbers in steps, and so are those that
-//! they have in common: the first of these is the least solution of two congruences, and their step is the least
-//! common multiple of both. So it is with the columns. A column of a part keeps rows that stand one after the
-//! other, so in a common column the question is whether a common row lies between four numbers.
+//! [`overlap`] is true exactly where both views are of one array and their lists of positions share one.
+//! [`conflict`] is true exactly where one of two tasks writes an element that the other reads or writes. Both take no
+//! memory, and never list elements. [`deps`] goes through all pairs of some tasks, and gives each the places of the
+//! earlier ones that it is in conflict with: of a write, a read and a write of one element, in this order, the lists
+//! are empty, 1, and 1 and 2. All three want one shape for all views of an array.
 //!
-//! The cost is that of two Euclidean algorithms, and then some divisions for each common column, or each common
-//! row where these are fewer. It ends at the first column with a shared element: that is the first one, where
-//! both views are whole.
+//! The rows of both views are numbers in steps, and so are those that they have in common: the first of these is the
+//! least solution of two congruences, and their step is the least common multiple of both. So it is with the columns.
+//! A column of a part keeps rows that stand one after the other, from the diagonal or up to it. The row on the diagonal
+//! moves by as much from each common column to the next, so in a common column the question is whether a common row
+//! lies between four numbers, which are had by a product each.
 //!
-//! Inside, `congruence` finds least solutions, `run` has numbers in steps and `shared` what two runs share;
-//! `place` goes from a number of a span to its place and back; `columns` has the rows that a column of a part
-//! keeps, by their places, and `pattern` by their numbers; and `meeting` joins them. Definitions other than
-//! `specs/Overlap.antt` are cited by private contracts alone.
+//! Views whose least and greatest rows or columns keep them apart are refused by these alone, and so are whole views in
+//! steps of 1 accepted. Else the cost is that of two Euclidean algorithms, and then some products, and seldom a division,
+//! for each common column, or each common row where these are fewer. It ends at the first column with a shared element:
+//! that is the first one, where both views are whole.
+//!
+//! Inside, `congruence` finds least solutions, `run` has numbers in steps and `shared` what two runs share; `place`
+//! goes from a number of a span to its place and back; `columns` has the rows that a part keeps; `pattern` is a view
+//! without its array, `line` the row on the diagonal, and `band` what a pattern keeps to it; `meeting` joins them, and
+//! `conflicts` and `dependencies` go through accesses and tasks. Definitions other than those of `specs/Overlap.antt`,
+//! `specs/Shapes.antt` and `specs/Dependencies.antt` are cited by private contracts alone; what a conflict is stands
+//! in dd_blocks.
 #![tactic(auto)]
 
 mod band;
@@ -33,6 +42,8 @@ mod meeting;
 mod pattern;
 mod place;
 mod run;
+#[cfg(test)]
+mod samples;
 mod shared;
 
 pub use conflicts::conflict;
