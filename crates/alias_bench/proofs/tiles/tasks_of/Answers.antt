@@ -1,4 +1,4 @@
-use Rattle.std.proofs.Common.{◌∷◌, [], ◌++◌, length, ℕ, arith}
+use Rattle.std.proofs.Common.{◌∷◌, [], ℕ, arith}
 use Rattle.std.proofs.lemmas.List.{length-append}
 use Rattle.std.proofs.lemmas.List.Elements.{All-push}
 use Rattle.dd_blocks.specs.declared.task_row.TaskRow.{TaskRow}
