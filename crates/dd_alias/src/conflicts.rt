@@ -10,8 +10,8 @@ use crate::meeting::overlap;
 use dd_blocks::{AccessRow, TaskRow};
 use dd_kernels::Mode;
 
-/// Whether some element is written by one of both tasks and read or written by the other, where all views of an array are
-/// of one shape. What is accessed both ways is read and written. It takes no memory.
+/// Whether some element is written by one of both tasks and read or written by the other, where all views of an array
+/// are of one shape. What is accessed both ways is read and written. It takes no memory.
 pub fn conflict(u: &TaskRow, t: &TaskRow) -> bool
     requires { HaveOneShape (u.now ∷ t.now ∷ []) }
     ensures { IsTrue result ↔ AreInConflict u.now t.now }

@@ -9,8 +9,8 @@ use dd_blocks::TaskRow;
 use dd_views::Items;
 use std::alloc::{AllocError, Global};
 
-/// For each task, in order, the places of the earlier ones that it is in conflict with, rising. Places are from 1, and all views of an array
-/// are of one shape.
+/// For each task, in order, the places of the earlier ones that it is in conflict with, rising, where all views of an
+/// array are of one shape. Places are from 1.
 pub fn deps(alloc: Global, tasks: &[TaskRow]) -> Result<Vec<Items<u32>>, AllocError>
     requires shapes { HaveOneShape tasks.now }
     requires few { length tasks.now < 2 ^ 32 }

@@ -31,8 +31,8 @@ pub fn overlap(a: &View, b: &View) -> bool
     share(a, b)
 }
 
-/// Whether the rows and columns of both meet in an element that both have. Most views are apart, or whole ones in steps of 1,
-/// and need no more than the least and the greatest numbers.
+/// Whether the rows and columns of both meet in an element that both have. Most views are apart, or whole ones in
+/// steps of 1, and need no more than the least and the greatest numbers.
 fn share(a: &View, b: &View) -> bool
     requires a { IsPattern (pattern_of a.now) }
     requires b { IsPattern (pattern_of b.now) }
