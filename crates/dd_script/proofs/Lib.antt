@@ -1,10 +1,3 @@
-pub mod LinesLemmas
-pub mod FormsLemmas
-pub mod NamesLemmas
-pub mod ReadingLemmas
-pub mod SoundLemmas
-pub mod MeaningLemmas
-pub mod ProfileExamples
 mod KeywordsLemmas
 mod Int64Lemmas
 mod FrontLemmas
@@ -15,3 +8,5 @@ mod FormStepsLemmas
 mod GatheredLemmas
 mod ReadsLemmas
 mod StatementExamples
+pub mod OneLemmas
+pub mod ShortLemmas

@@ -1,9 +1,6 @@
 pub use Rattle.dd_tokens.specs.Bytes
 pub use Rattle.dd_tokens.specs.Tokens
 pub use Rattle.dd_tokens.specs.Lexeme
-pub use Rattle.dd_kernels.specs.Shapes
-pub use Rattle.dd_kernels.specs.Table
-pub mod Lines
 pub mod Int64
 pub mod Front
 pub mod Spelling
@@ -16,10 +13,4 @@ pub mod ViewSteps
 pub mod Many
 pub mod ArgumentSteps
 pub mod FormSteps
-pub mod Said
-pub mod Forms
-pub mod View
-pub mod Profile
-pub mod AboveView
-pub mod Rows
-pub mod Meaning
+pub mod Short

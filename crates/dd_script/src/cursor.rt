@@ -6,23 +6,9 @@ ghost use Rattle.std.specs.List.{AllByRecursion};
 ghost use Rattle.std.specs.Str.{bytes_eq};
 ghost use Rattle.dd_tokens.specs.TokenIn.{IsTokenIn};
 ghost use Rattle.dd_tokens.specs.Lexeme.{lexemes_of};
-ghost use Rattle.dd_script.specs.Front.{word_at, mark_at};
-ghost use Rattle.dd_script.specs.Forms.{number_at};
+ghost use Rattle.dd_script.specs.Front.{mark_at};
 
 use dd_tokens::{Token, TokenKind, text};
-
-/// A word.
-#[tactic(auto, unfolding(crate::specs::Front::word_at))]
-pub(crate) fn word<'a, 't>(line: &'a [u8], tokens: &'t [Token]) -> Option<(&'a [u8], &'t [Token])>
-    requires { AllByRecursion (IsTokenIn line.now) tokens.now }
-    ensures value { option_map (λ x. (x.0.now, lexemes_of line.now x.1.now)) result ≡ word_at (lexemes_of line.now tokens.now) }
-    ensures rest { IfSome result (λ x. AllByRecursion (IsTokenIn line.now) x.1.now) }
-{
-    match tokens {
-        [first, rest @ ..] if first.kind == TokenKind::Word => Some((text(line, first), rest)),
-        _ => None,
-    }
-}
 
 /// That mark.
 #[tactic(auto, unfolding(crate::specs::Front::mark_at))]
@@ -43,20 +29,4 @@ pub(crate) fn is_word(found: &[u8], wanted: &[u8]) -> bool
     ensures { result ≡ bytes_eq found.now wanted.now }
 {
     found == wanted
-}
-
-/// A number that is an Int64.
-#[tactic(auto, unfolding(crate::specs::Forms::number_at))]
-pub(crate) fn number<'t>(line: &[u8], tokens: &'t [Token]) -> Option<(i64, &'t [Token])>
-    requires { AllByRecursion (IsTokenIn line.now) tokens.now }
-    ensures value { option_map (λ x. (x.0, lexemes_of line.now x.1.now)) result ≡ number_at (lexemes_of line.now tokens.now) }
-    ensures rest { IfSome result (λ x. AllByRecursion (IsTokenIn line.now) x.1.now) }
-{
-    match tokens {
-        [first, rest @ ..] if first.kind == TokenKind::Number => {
-            let value = dd_tokens::number(line, first)?;
-            Some((value, rest))
-        }
-        _ => None,
-    }
 }

@@ -1,4 +1,4 @@
-//! The reader of scripts.
+//! The reader of the lines of a script.
 //!
 //! `statement_of` reads one line of the whole language from its tokens:
 //!
@@ -15,27 +15,19 @@
 //! in its arguments. Then its numbers are looked at, then the words: so each fault comes before those that are asked after it. Only names
 //! and lists take memory.
 //!
-//! `first_rows` reads a whole script, for now of a small profile, line by line into rows.
-//!
 //! Inside, each file from `word` to `form` has a part of a line and how it is read from the front of some tokens, by the
 //! steps of a definition of the same name. `specs/Spelling.antt` says how each statement is spelled, apart from any
 //! reading, and `specs/Reads.antt` what a line says; laws join the two (`laws`).
 #![tactic(auto)]
 
-mod above;
 mod access;
 mod argument;
 mod cursor;
-mod entering;
-mod fault;
 mod filling;
-mod first_forms;
-mod first_line;
 mod form;
 mod index;
 mod keyword;
 pub mod laws;
-mod lines;
 mod meaning;
 mod numbers;
 mod numeral;
@@ -43,16 +35,11 @@ mod pair;
 mod piece;
 mod pieces;
 mod read;
-mod reader;
-mod row;
 mod statement;
 mod viewed;
 mod word;
 mod written;
 
-pub use fault::FirstFault;
 pub use piece::Piece;
 pub use read::statement_of;
-pub use reader::first_rows;
-pub use row::FirstRow;
 pub use statement::Statement;

@@ -1,4 +1,1 @@
-pub mod PrintingLemmas
-pub mod TaskLemmas
-pub mod RowsLemmas
 pub mod OutcomesLemmas

@@ -1,9 +1,8 @@
 pub use Rattle.dd_causes.specs.Counts
 pub use Rattle.dd_causes.specs.Appended
 pub use Rattle.dd_io.specs.Taken
-pub use Rattle.dd_script.specs.Profile
-pub use Rattle.dd_script.specs.Meaning
-pub mod Lists
+pub use Rattle.dd_check.specs.Faults
+pub use Rattle.dd_meaning.specs.Text
 pub mod Words
 pub mod Messages
 pub mod Outcomes

@@ -1,53 +1,56 @@
--- What a run of the words `run` read and wrote, by the status that it ends with.
+-- What a run read and wrote, by the status that it ends with.
 use Rattle.std.specs.Prelude.{◌≡◌, ℕ, ◌+◌, ◌≤◌, List, [], length, Option, ◌⊎◌}
 use Rattle.std.specs.Io.KnownBytes.{Appends}
 use Rattle.dd_causes.specs.Appended.{AppendsFront}
 use Rattle.dd_io.specs.Taken.{ReadsToEnd, TakesExactly}
-use Rattle.dd_script.specs.declared.row.FirstRow.{FirstRow}
-use Rattle.dd_script.specs.Profile.{IsProfile, LeavesAt}
-use Rattle.dd_script.specs.Meaning.{script_text}
+use Rattle.dd_blocks.specs.declared.plan.Plan.{Plan}
+use Rattle.dd_blocks.specs.Limits.{text_limit}
+use Rattle.dd_check.specs.declared.fault.Fault.{Fault}
+use Rattle.dd_check.specs.declared.kind.Kind.TheVariants.{TooLong}
+use Rattle.dd_check.specs.Faults.{IsOnlyFaultOf, IsOnlyPlanOf}
+use Rattle.dd_meaning.specs.Text.{text_of}
 use Rattle.dd_session.specs.declared.status.Status.{Status}
-use Rattle.dd_session.specs.declared.status.Status.TheVariants.{Done, Memory, Words, ReadFault, WriteFault, NotYet}
+use Rattle.dd_session.specs.declared.status.Status.TheVariants.{Done, Memory, Words, Script, ReadFault, WriteFault}
 
--- the most bytes that a script may have
-abbrev pub byte_limit : ℕ
-byte_limit = 1048576
-
--- the source was read to its end, and what it had left is a text of the profile with these rows
-pub record ReadsProfile (left left' : Option (List ℕ)) (rows : List FirstRow) : Type 0 where
+-- the source was read to its end, and what it had left is a script that is accepted, with this Plan
+pub record ReadsPlan (left left' : Option (List ℕ)) (plan : Plan) : Type 0 where
   pub text : List ℕ
   pub read : ReadsToEnd left left' text
-  pub short : length text ≤ byte_limit
-  pub profile : IsProfile text rows
+  pub short : length text ≤ text_limit
+  pub accepted : IsOnlyPlanOf text plan
 
--- the text that was read to its end leaves the profile at that line
-pub record ReadsOther (left left' : Option (List ℕ)) (at : ℕ) : Type 0 where
+-- the text that was read to its end has this first fault
+pub record ReadsFaulty (left left' : Option (List ℕ)) (fault : Fault) : Type 0 where
   pub text : List ℕ
   pub read : ReadsToEnd left left' text
-  pub short : length text ≤ byte_limit
-  pub leaves : LeavesAt text at
+  pub short : length text ≤ text_limit
+  pub refused : IsOnlyFaultOf text fault
 
 -- the whole text of the script was written
 pub record WritesAll (left left' taken taken' : Option (List ℕ)) : Type 0 where
-  pub rows : List FirstRow
-  pub read : ReadsProfile left left' rows
-  pub written : Appends taken taken' (script_text rows)
+  pub plan : Plan
+  pub read : ReadsPlan left left' plan
+  pub written : Appends taken taken' (text_of plan)
 
 -- a front of the text of the script was written
 pub record WritesFront (left left' taken taken' : Option (List ℕ)) : Type 0 where
-  pub rows : List FirstRow
-  pub read : ReadsProfile left left' rows
-  pub written : AppendsFront taken taken' (script_text rows)
+  pub plan : Plan
+  pub read : ReadsPlan left left' plan
+  pub written : AppendsFront taken taken' (text_of plan)
 
--- a text of no lines is not built, line 0: the source has more bytes than a script may have
-abbrev pub IsNotYet : ℕ → Option (List ℕ) → Option (List ℕ) → Type 0
-IsNotYet at left left' = ((at ≡ 0) × TakesExactly left left' (byte_limit + 1)) ⊎ ReadsOther left left' at
+-- the fault of a text that has more bytes than a script may have
+abbrev pub too_long : Fault
+too_long = record { line = 0; kind = TooLong; a = text_limit; b = 0 }
+
+-- more bytes were there than a script may have, or the text has the fault
+abbrev pub IsRefused : Fault → Option (List ℕ) → Option (List ℕ) → Type 0
+IsRefused fault left left' = ((fault ≡ too_long) × TakesExactly left left' (text_limit + 1)) ⊎ ReadsFaulty left left' fault
 
 -- By the status: what was read, and what was written. Want of memory may end the run before anything is written, or in the middle.
 abbrev pub EndsWith : Status → Option (List ℕ) → Option (List ℕ) → Option (List ℕ) → Option (List ℕ) → Type 0
 EndsWith Done left left' taken taken' = WritesAll left left' taken taken'
 EndsWith Memory left left' taken taken' = Appends taken taken' [] ⊎ WritesFront left left' taken taken'
 EndsWith Words left left' taken taken' = ⊥
+EndsWith (Script fault) left left' taken taken' = IsRefused fault left left' × Appends taken taken' []
 EndsWith ReadFault left left' taken taken' = Appends taken taken' []
 EndsWith WriteFault left left' taken taken' = WritesFront left left' taken taken'
-EndsWith (NotYet at) left left' taken taken' = IsNotYet at left left' × Appends taken taken' []

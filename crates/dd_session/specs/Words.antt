@@ -1,6 +1,6 @@
 -- The words of a command.
-use Rattle.std.specs.Prelude.{◌≡◌, ℕ, List, [], ◌∷◌, codes}
+use Rattle.std.specs.Prelude.{◌≡◌, ◌⊎◌, ℕ, List, [], ◌∷◌, codes}
 
--- the one word `run`
-abbrev pub AreRun : List (List ℕ) → Type 0
-AreRun words = words ≡ codes "run" ∷ []
+-- one word: `run` or `plain`
+abbrev pub AreCommand : List (List ℕ) → Type 0
+AreCommand words = (words ≡ codes "run" ∷ []) ⊎ (words ≡ codes "plain" ∷ [])

@@ -2,19 +2,20 @@ ghost use Rattle.std.specs.Prelude.{◌≡◌, ℕ, ◌<◌, ◌≤◌, ◌↔�
 ghost use Rattle.std.specs.Io.KnownBytes.{Appends};
 ghost use Rattle.dd_causes.specs.Counts.{Rose};
 ghost use Rattle.dd_causes.specs.Appended.{AppendsFront};
-ghost use Rattle.dd_session.specs.Words.{AreRun};
+ghost use Rattle.dd_blocks.specs.declared.plan.Plan.{Plan};
+ghost use Rattle.dd_blocks.specs.Limits.{text_limit};
+ghost use Rattle.dd_check.specs.declared.fault.Fault.{Fault};
+ghost use Rattle.dd_check.specs.Faults.{IsFault, IsPlanOf};
+ghost use Rattle.dd_session.specs.Words.{AreCommand};
 ghost use Rattle.dd_session.specs.Messages.{message_of};
-ghost use Rattle.dd_script.specs.declared.row.FirstRow.{FirstRow};
-ghost use Rattle.dd_script.specs.Profile.{IsProfile, LeavesAt};
-ghost use Rattle.dd_session.specs.Outcomes.{EndsWith, byte_limit};
+ghost use Rattle.dd_session.specs.Outcomes.{EndsWith, too_long};
 
-use crate::fault::RunFault;
 use crate::reporting::report;
-use crate::rows::run_rows;
 use crate::status::{Outcome, Status};
 use crate::words::CommandWords;
+use dd_check::{AcceptFault, Fault, Kind, accept};
 use dd_io::{ReadEnd, Sink, Source, read_all};
-use dd_script::{FirstFault, first_rows};
+use dd_plain::{PlainFault, run_plain};
 use std::alloc::Global;
 
 /// The most bytes that a script may have.
@@ -32,19 +33,31 @@ fn run<S: Source, O: Sink>(alloc: Global, src: &mut S, out: &mut O) -> Status
 {
     let text = match read_all(alloc, src, BYTE_LIMIT) {
         Ok(text) => text,
-        Err(ReadEnd::TooLong) => return Status::NotYet { line: 0 },
+        Err(ReadEnd::TooLong) => return Status::Script(too_long()),
         Err(ReadEnd::ReadFault) => return Status::ReadFault,
         Err(ReadEnd::Memory) => return Status::Memory,
     };
-    let rows = match first_rows(alloc, &text) {
-        Ok(rows) => rows,
-        Err(FirstFault::NotYet(line)) => return Status::NotYet { line },
-        Err(FirstFault::Memory) => return Status::Memory,
+    let plan = match accept(alloc, &text) {
+        Ok(plan) => plan,
+        Err(AcceptFault::Script(fault)) => return Status::Script(fault),
+        Err(AcceptFault::Memory) => return Status::Memory,
     };
-    match run_rows(alloc, &rows, out) {
+    match run_plain(alloc, &plan, out) {
         Ok(()) => Status::Done,
-        Err(RunFault::WriteFault) => Status::WriteFault,
-        Err(RunFault::Memory) => Status::Memory,
+        Err(PlainFault::WriteFault) => Status::WriteFault,
+        Err(PlainFault::Memory) => Status::Memory,
+    }
+}
+
+/// The fault of a text that has more bytes than a script may have.
+fn too_long() -> Fault
+    ensures { result ≡ too_long }
+{
+    Fault {
+        line: 0,
+        kind: Kind::TooLong,
+        a: BYTE_LIMIT as u64,
+        b: 0,
     }
 }
 
@@ -55,9 +68,9 @@ fn run_if_asked<S: Source, O: Sink>(
     src: &mut S,
     out: &mut O,
 ) -> Status
-    ensures words { (result ≡ Status.Words) ↔ (AreRun words.now → ⊥) }
-    ensures idle { (AreRun words.now → ⊥) → (src.new ≡ src.old) × (out.new ≡ out.old) }
-    ensures ends { AreRun words.now
+    ensures words { (result ≡ Status.Words) ↔ (AreCommand words.now → ⊥) }
+    ensures idle { (AreCommand words.now → ⊥) → (src.new ≡ src.old) × (out.new ≡ out.old) }
+    ensures ends { AreCommand words.now
         → EndsWith result (S.left src.old) (S.left src.new) (O.taken out.old) (O.taken out.new) }
     ensures read_cause { result ≡ Status.ReadFault → Rose (S.faults src.old) (S.faults src.new) }
     ensures write_cause { result ≡ Status.WriteFault → Rose (O.faults out.old) (O.faults out.new) }
@@ -66,18 +79,18 @@ fn run_if_asked<S: Source, O: Sink>(
     ensures reads_later { S.faults src.old ≤ S.faults src.new }
     ensures writes_later { O.faults out.old ≤ O.faults out.new }
 {
-    if words.are_run() {
+    if words.are_command() {
         run(alloc, src, out)
     } else {
         Status::Words
     }
 }
 
-/// Runs the command that the words name: `run` reads a script from the source, runs its tasks one after
-/// the other on whole arrays and writes what it prints to `out`. `err` gets the line of the status.
+/// Runs the command that the words name: `run` and `plain` read a script from the source, check it whole, run its tasks
+/// one after the other on whole arrays and write what it prints to `out`. `err` gets the line of the status.
 ///
-/// Statuses other than `Done`: `Words` exactly where the words are not the one word `run`; `NotYet` where
-/// the text leaves the profile; `ReadFault` and `WriteFault` only where the source or `out` failed meanwhile;
+/// Statuses other than `Done`: `Words` exactly where the words are not one word that names a command; `Script` exactly
+/// where the script has that first fault; `ReadFault` and `WriteFault` only where the source or `out` failed meanwhile;
 /// `Memory` at any time.
 pub fn run_words<S: Source, O: Sink, E: Sink>(
     alloc: Global,
@@ -86,21 +99,22 @@ pub fn run_words<S: Source, O: Sink, E: Sink>(
     out: &mut O,
     err: &mut E,
 ) -> Outcome
-    ensures words { (result.status ≡ Status.Words) ↔ (AreRun words.now → ⊥) }
-    ensures idle { (AreRun words.now → ⊥) → (src.new ≡ src.old) × (out.new ≡ out.old) }
-    ensures ends { AreRun words.now
+    ensures words { (result.status ≡ Status.Words) ↔ (AreCommand words.now → ⊥) }
+    ensures idle { (AreCommand words.now → ⊥) → (src.new ≡ src.old) × (out.new ≡ out.old) }
+    ensures ends { AreCommand words.now
         → EndsWith result.status (S.left src.old) (S.left src.new) (O.taken out.old) (O.taken out.new) }
 
-    // Where no read failed and the source tells what it has: a text of the profile is run, and any other is not.
-    ensures complete { AreRun words.now → (text : List ℕ) (rows : List FirstRow) → S.left src.old ≡ Some text
-        → length text ≤ byte_limit → IsProfile text rows → (Rose (S.faults src.old) (S.faults src.new) → ⊥)
+    // Where no read failed and the source tells what it has: a script that is accepted is run, and any other is refused
+    // for its first fault.
+    ensures complete { AreCommand words.now → (text : List ℕ) (plan : Plan) → S.left src.old ≡ Some text
+        → length text ≤ text_limit → IsPlanOf text plan → (Rose (S.faults src.old) (S.faults src.new) → ⊥)
         → (Rose (O.faults out.old) (O.faults out.new) → ⊥) → (result.status ≡ Status.Done) ⊎ (result.status ≡ Status.Memory) }
-    ensures not_built { AreRun words.now → (text : List ℕ) (at : ℕ) → S.left src.old ≡ Some text
-        → length text ≤ byte_limit → LeavesAt text at → (Rose (S.faults src.old) (S.faults src.new) → ⊥)
-        → (result.status ≡ Status.NotYet at) ⊎ (result.status ≡ Status.Memory) }
-    ensures too_long { AreRun words.now → (text : List ℕ) → S.left src.old ≡ Some text
-        → byte_limit < length text → (Rose (S.faults src.old) (S.faults src.new) → ⊥)
-        → (result.status ≡ Status.NotYet 0) ⊎ (result.status ≡ Status.Memory) }
+    ensures refused { AreCommand words.now → (text : List ℕ) (fault : Fault) → S.left src.old ≡ Some text
+        → length text ≤ text_limit → IsFault text fault → (Rose (S.faults src.old) (S.faults src.new) → ⊥)
+        → (result.status ≡ Status.Script fault) ⊎ (result.status ≡ Status.Memory) }
+    ensures too_long { AreCommand words.now → (text : List ℕ) → S.left src.old ≡ Some text
+        → text_limit < length text → (Rose (S.faults src.old) (S.faults src.new) → ⊥)
+        → (result.status ≡ Status.Script too_long) ⊎ (result.status ≡ Status.Memory) }
 
     // Why a read or a write failed.
     ensures read_cause { result.status ≡ Status.ReadFault → Rose (S.faults src.old) (S.faults src.new) }

@@ -1,5 +1,7 @@
 ghost use Rattle.std.specs.Prelude.{◌≡◌};
 
+use dd_check::Fault;
+
 /// How a command ended.
 #[derive(Clone, Copy, Debug, PartialEq, Eq)]
 pub enum Status {
@@ -9,16 +11,12 @@ pub enum Status {
     Memory,
     /// The words are no command.
     Words,
+    /// The script has this fault, and none before it.
+    Script(Fault),
     /// The source of the script failed.
     ReadFault,
     /// The sink of the output failed.
     WriteFault,
-    /// The script needs what isn't built yet.
-    NotYet {
-        /// The first line, from 1, that does; the line of a `region` that is never ended; or 0 for a
-        /// text that is too long.
-        line: u32,
-    },
 }
 
 impl Status {
@@ -32,9 +30,9 @@ impl Status {
             Status::Done => 0,
             Status::Memory => 1,
             Status::Words => 2,
+            Status::Script(_) => 3,
             Status::ReadFault => 4,
             Status::WriteFault => 5,
-            Status::NotYet { .. } => 9,
         }
     }
 }

@@ -74,11 +74,11 @@ const SCRIPTS: [Script; 6] = [
         0,
         "-7 -7 -7\n-7 -7 -7\n",
     ),
-    ("an open region", b"array A 1 1 1 1 zeros\nregion", 9, ""),
+    ("an open region", b"array A 1 1 1 1 zeros\nregion", 3, ""),
     (
         "nothing before a fault",
         b"array A 1 1 1 1 zeros\nprint A\nprint B",
-        9,
+        3,
         "",
     ),
 ];

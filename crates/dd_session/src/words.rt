@@ -1,5 +1,5 @@
-ghost use Rattle.std.specs.Prelude.{◌≡◌, ℕ, List, [], ◌∷◌, ◌++◌, ◌↔◌, codes, IsTrue, OnOk, OnErr};
-ghost use Rattle.dd_session.specs.Words.{AreRun};
+ghost use Rattle.std.specs.Prelude.{◌≡◌, ℕ, List, [], ◌∷◌, ◌++◌, ◌↔◌, ◌⊎◌, codes, IsTrue, OnOk, OnErr};
+ghost use Rattle.dd_session.specs.Words.{AreCommand};
 
 use std::alloc::{AllocError, Global};
 use std::marker::Model;
@@ -39,19 +39,19 @@ impl CommandWords {
         Ok(())
     }
 
-    /// Whether they are the one word `run`.
-    pub(crate) fn are_run(&self) -> bool
-        ensures { IsTrue result ↔ AreRun self.now }
+    /// Whether they are one word that names a command.
+    pub(crate) fn are_command(&self) -> bool
+        ensures { IsTrue result ↔ AreCommand self.now }
     {
         match self.words.as_slice() {
-            [word] => is_run(word.as_str()),
+            [word] => is_command(word.as_str()),
             _ => false,
         }
     }
 }
 
-fn is_run(word: &str) -> bool
-    ensures { IsTrue result ↔ (word.now ≡ codes "run") }
+fn is_command(word: &str) -> bool
+    ensures { IsTrue result ↔ ((word.now ≡ codes "run") ⊎ (word.now ≡ codes "plain")) }
 {
-    word == "run"
+    word == "run" || word == "plain"
 }

@@ -1,0 +1,9 @@
+pub mod Lists
+pub mod Sizes
+pub mod Walks
+pub mod Lending
+pub mod MovesMarks
+pub mod MovesHomes
+pub mod MovesVisits
+pub mod Rows
+pub mod MovesRest

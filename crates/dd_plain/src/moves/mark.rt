@@ -1,0 +1,101 @@
+//! The mark of an element: which spaces hold its current version.
+ghost use Rattle.std.specs.Prelude.{◌≡◌, cond};
+ghost use Rattle.dd_plain.specs.MovesMarks.{IsMarked, IsMarkedVisit, has_space, mark_after, mark_of, moves_at, opened};
+
+use dd_kernels::Mode;
+
+/// Why a region comes to an element, with the number of a space, from 1.
+#[derive(Clone, Copy, Debug)]
+pub(crate) enum Visit {
+    /// A task in the space reads it.
+    Read(u32),
+    /// A task in the space writes it.
+    Write(u32),
+    /// The region ends.
+    Leave,
+}
+
+impl Visit {
+    ghost use Rattle.dd_plain.specs.MovesMarks.{asks_home};
+    ghost use Rattle.dd_plain.specs.MovesVisits.{is_of};
+
+    /// Whether the visit is of accesses of the mode.
+    pub(super) fn is_of(self, mode: Mode) -> bool
+        ensures { result ≡ is_of self mode }
+    {
+        match self {
+            Visit::Read(_) => mode != Mode::Write,
+            Visit::Write(_) => mode != Mode::Read,
+            Visit::Leave => true,
+        }
+    }
+
+    /// Whether it depends on the home what the visit makes of the mark.
+    pub(super) fn asks_home(self, mark: u8) -> bool
+        ensures { result ≡ asks_home self mark }
+    {
+        match self {
+            Visit::Read(_) => mark == 0,
+            Visit::Write(_) => false,
+            Visit::Leave => mark != 0,
+        }
+    }
+}
+
+/// What a visit makes of an element.
+#[derive(Clone, Copy)]
+pub(super) struct Seen {
+    pub mark: u8,
+    /// How often it was moved.
+    pub moved: u64,
+}
+
+/// A visit of an element by its mark and its home.
+pub(super) fn after_visit(mark: u8, home: u32, visit: Visit) -> Seen
+    requires home { IsMarked home }
+    requires visit { IsMarkedVisit visit }
+    ensures mark { result.mark ≡ mark_after visit home mark }
+    ensures moved { result.moved ≡ moves_at visit home mark }
+{
+    match visit {
+        Visit::Read(space) => {
+            let opened = opened(mark, home);
+            Seen {
+                mark: opened | mark_of(space),
+                moved: missing(opened, space),
+            }
+        }
+        Visit::Write(space) => Seen {
+            mark: mark_of(space),
+            moved: 0,
+        },
+        Visit::Leave => Seen {
+            mark: 0,
+            moved: missing(opened(mark, home), home),
+        },
+    }
+}
+
+/// The mark of an element once the region has come to it.
+fn opened(mark: u8, home: u32) -> u8
+    requires { IsMarked home }
+    ensures { result ≡ opened home mark }
+{
+    if mark == 0 { mark_of(home) } else { mark }
+}
+
+/// The mark that has the bit of one space.
+fn mark_of(space: u32) -> u8
+    requires { IsMarked space }
+    ensures { result ≡ mark_of space }
+{
+    1 << (space - 1)
+}
+
+/// 1 where the space does not hold the element, and 0 where it does.
+fn missing(mark: u8, space: u32) -> u64
+    requires { IsMarked space }
+    ensures { result ≡ cond (has_space mark space) 0 1 }
+{
+    if mark >> (space - 1) & 1 == 1 { 0 } else { 1 }
+}

@@ -1,0 +1,164 @@
+//! What is printed, line by line, each by one `write_all`.
+ghost use Rattle.std.specs.Prelude.{◌≡◌, ℕ, ◌+◌, ◌*◌, ◌<◌, ◌≤◌, ◌∷◌, ◌++◌, Bool, [], length, codes, OnOk, OnErr, if◌then◌else◌, IsErrOf};
+ghost use Rattle.std.specs.Fmt.{decimal, signed_decimal};
+ghost use Rattle.std.specs.Io.KnownBytes.{Appends};
+ghost use Rattle.dd_causes.specs.Counts.{Rose};
+ghost use Rattle.dd_causes.specs.Appended.{AppendsFront};
+ghost use Rattle.dd_blocks.specs.Grids.{element_count};
+ghost use Rattle.dd_kernels.specs.Lists.{element, sum_below, wrapped};
+ghost use Rattle.dd_meaning.specs.Text.{printed_row, printed, summed, moved_line};
+
+use crate::fault::PlainFault;
+use dd_blocks::Grid;
+use dd_io::{Sink, write_all};
+use itoa::Buffer;
+use std::alloc::AllocError;
+
+/// Adds a number to a line, behind a space unless it is the first.
+fn push_number(
+    line: &mut Vec<u8>,
+    is_first: bool,
+    values: &[i64],
+    at: usize,
+) -> Result<(), AllocError>
+    requires { at < length values.now }
+    ensures { OnOk result (line.new.items
+        ≡ line.old.items ++ ((if is_first then [] else (32 ∷ [])) ++ signed_decimal (element values.now at))) }
+{
+    if !is_first {
+        line.push(b' ')?;
+    }
+    let mut buffer = Buffer::new();
+    line.extend_from_slice(buffer.format(values[at]).as_bytes())
+}
+
+/// Adds row `i`, from 0, of an array to a line, with its line feed.
+fn push_row(line: &mut Vec<u8>, grid: Grid, values: &[i64], i: u32) -> Result<(), AllocError>
+    requires within { i < grid.rows }
+    requires filled { length values.now ≡ element_count grid }
+    ensures { OnOk result (line.new.items ≡ line.old.items ++ printed_row grid values.now i) }
+{
+    for j in 0..grid.cols {
+        let at = j as usize * grid.rows as usize + i as usize;
+        push_number(line, j == 0, values, at)?;
+    }
+    line.push(b'\n')?;
+    Ok(())
+}
+
+/// Writes row `i`, from 0, of an array. `line` is only room for it.
+fn print_row<O: Sink>(
+    line: &mut Vec<u8>,
+    grid: Grid,
+    values: &[i64],
+    i: u32,
+    out: &mut O,
+) -> Result<(), PlainFault>
+    requires within { i < grid.rows }
+    requires filled { length values.now ≡ element_count grid }
+    ensures all { OnOk result (Appends (O.taken out.old) (O.taken out.new) (printed_row grid values.now i)) }
+    ensures front { OnErr result (AppendsFront (O.taken out.old) (O.taken out.new) (printed_row grid values.now i)) }
+    ensures cause { IsErrOf result PlainFault.WriteFault → Rose (O.faults out.old) (O.faults out.new) }
+    ensures kept { (¬ IsErrOf result PlainFault.WriteFault) → O.faults out.new ≡ O.faults out.old }
+    ensures later { O.faults out.old ≤ O.faults out.new }
+{
+    line.clear();
+    push_row(line, grid, values, i)?;
+    write_all(out, line)?;
+    Ok(())
+}
+
+/// Writes an array row by row.
+pub(crate) fn print_array<O: Sink>(
+    line: &mut Vec<u8>,
+    grid: Grid,
+    values: &[i64],
+    out: &mut O,
+) -> Result<(), PlainFault>
+    requires { length values.now ≡ element_count grid }
+    ensures all { OnOk result (Appends (O.taken out.old) (O.taken out.new) (printed grid values.now)) }
+    ensures front { OnErr result (AppendsFront (O.taken out.old) (O.taken out.new) (printed grid values.now)) }
+    ensures cause { IsErrOf result PlainFault.WriteFault → Rose (O.faults out.old) (O.faults out.new) }
+    ensures kept { (¬ IsErrOf result PlainFault.WriteFault) → O.faults out.new ≡ O.faults out.old }
+    ensures later { O.faults out.old ≤ O.faults out.new }
+{
+    for i in 0..grid.rows {
+        print_row(line, grid, values, i, out)?;
+    }
+    Ok(())
+}
+
+/// The sum of an array. It wraps.
+fn sum_of(values: &[i64]) -> i64
+    ensures { result ≡ wrapped (sum_below (length values.now) (element values.now)) }
+{
+    let mut sum = 0i64;
+    for value in values {
+        sum = sum.wrapping_add(*value);
+    }
+    sum
+}
+
+/// Puts the line of a sum into a line's room.
+fn put_sum(line: &mut Vec<u8>, name: &[u8], values: &[i64]) -> Result<(), AllocError>
+    ensures { OnOk result (line.new.items ≡ summed name.now values.now) }
+{
+    line.clear();
+    line.extend_from_slice(b"sum ")?;
+    line.extend_from_slice(name)?;
+    line.push(b' ')?;
+    let mut buffer = Buffer::new();
+    line.extend_from_slice(buffer.format(sum_of(values)).as_bytes())?;
+    line.push(b'\n')?;
+    Ok(())
+}
+
+/// Writes the sum of an array under a name.
+pub(crate) fn print_sum<O: Sink>(
+    line: &mut Vec<u8>,
+    name: &[u8],
+    values: &[i64],
+    out: &mut O,
+) -> Result<(), PlainFault>
+    ensures all { OnOk result (Appends (O.taken out.old) (O.taken out.new) (summed name.now values.now)) }
+    ensures front { OnErr result (AppendsFront (O.taken out.old) (O.taken out.new) (summed name.now values.now)) }
+    ensures cause { IsErrOf result PlainFault.WriteFault → Rose (O.faults out.old) (O.faults out.new) }
+    ensures kept { (¬ IsErrOf result PlainFault.WriteFault) → O.faults out.new ≡ O.faults out.old }
+    ensures later { O.faults out.old ≤ O.faults out.new }
+{
+    put_sum(line, name, values)?;
+    write_all(out, line)?;
+    Ok(())
+}
+
+/// Puts the line of the moved elements into a line's room.
+fn put_moved(line: &mut Vec<u8>, moved: u64) -> Result<(), AllocError>
+    ensures { OnOk result (line.new.items ≡ moved_line moved) }
+{
+    line.clear();
+    line.extend_from_slice(b"moved ")?;
+    let mut buffer = Buffer::new();
+    line.extend_from_slice(buffer.format(moved).as_bytes())?;
+    line.push(b'\n')?;
+    Ok(())
+}
+
+/// Writes how many elements were moved so far.
+pub(crate) fn print_moved<O: Sink>(
+    line: &mut Vec<u8>,
+    moved: u64,
+    out: &mut O,
+) -> Result<(), PlainFault>
+    ensures all { OnOk result (Appends (O.taken out.old) (O.taken out.new) (moved_line moved)) }
+    ensures front { OnErr result (AppendsFront (O.taken out.old) (O.taken out.new) (moved_line moved)) }
+    ensures cause { IsErrOf result PlainFault.WriteFault → Rose (O.faults out.old) (O.faults out.new) }
+    ensures kept { (¬ IsErrOf result PlainFault.WriteFault) → O.faults out.new ≡ O.faults out.old }
+    ensures later { O.faults out.old ≤ O.faults out.new }
+{
+    put_moved(line, moved)?;
+    write_all(out, line)?;
+    Ok(())
+}
+
+#[cfg(test)]
+mod tests;

@@ -1,0 +1,154 @@
+//! The rows of a Plan in their order.
+ghost use Rattle.std.specs.Prelude.{◌≡◌, ◌+◌, ◌-◌, ◌<◌, ◌≤◌, length, OnOk, OnErr, IfOk, IsErrOf};
+ghost use Rattle.std.specs.Io.KnownBytes.{Appends};
+ghost use Rattle.dd_causes.specs.Counts.{Rose};
+ghost use Rattle.dd_causes.specs.Appended.{AppendsFront};
+ghost use Rattle.dd_blocks.specs.WellFormed.{IsRegion, IsWellFormed, StatementNamesRows};
+ghost use Rattle.dd_meaning.specs.Text.{printed_by, regions_above, row_text, text_of};
+ghost use Rattle.dd_plain.specs.Lists.{lists_of};
+ghost use Rattle.dd_plain.specs.Rows.{HasRun};
+ghost use Rattle.dd_plain.specs.Sizes.{HasSizes};
+
+use crate::fault::PlainFault;
+use crate::moves::Moves;
+use crate::printing::{print_array, print_moved, print_sum};
+use crate::task::run_tasks;
+use crate::tasks::tasks_of;
+use crate::world::filled_world;
+use dd_blocks::{Plan, What};
+use dd_io::Sink;
+use std::alloc::{AllocError, Global};
+
+/// Runs the tasks of a Plan one after the other on whole arrays, and writes the script's text, row by row.
+///
+/// # Errors
+/// `WriteFault`, a fault of the sink, which has counted it, and `Memory`, want of memory. A front of the text was
+/// appended then, and nothing is written behind it.
+pub fn run_plain<O: Sink>(alloc: Global, plan: &Plan, out: &mut O) -> Result<(), PlainFault>
+    requires { IsWellFormed plan.now }
+    ensures all { OnOk result (Appends (O.taken out.old) (O.taken out.new) (text_of plan.now)) }
+    ensures front { OnErr result (AppendsFront (O.taken out.old) (O.taken out.new) (text_of plan.now)) }
+    ensures cause { IsErrOf result PlainFault.WriteFault → Rose (O.faults out.old) (O.faults out.new) }
+    ensures kept { (¬ IsErrOf result PlainFault.WriteFault) → O.faults out.new ≡ O.faults out.old }
+    ensures later { O.faults out.old ≤ O.faults out.new }
+{
+    let mut run = begin(alloc, plan)?;
+    run_rows(alloc, plan, &mut run, out)
+}
+
+/// What a run has.
+#[derive(Drop)]
+pub(crate) struct Run {
+    /// The arrays, in the order of their numbers.
+    world: Vec<Vec<i64>>,
+    moves: Moves,
+    /// Room for a line of the text.
+    line: Vec<u8>,
+    /// How many elements the regions moved so far.
+    moved: u64,
+}
+
+/// A run before its first row.
+fn begin(alloc: Global, plan: &Plan) -> Result<Run, AllocError>
+    requires { IsWellFormed plan.now }
+    ensures { IfOk result (HasRun plan.now 0) }
+{
+    Ok(Run {
+        world: filled_world(alloc, plan.arrays.as_slice())?,
+        moves: Moves::new(alloc, plan)?,
+        line: Vec::new(alloc),
+        moved: 0,
+    })
+}
+
+/// Runs all rows.
+fn run_rows<O: Sink>(
+    alloc: Global,
+    plan: &Plan,
+    run: &mut Run,
+    out: &mut O,
+) -> Result<(), PlainFault>
+    requires well { IsWellFormed plan.now }
+    requires begun { HasRun plan.now 0 run.old }
+    ensures all { OnOk result (Appends (O.taken out.old) (O.taken out.new) (text_of plan.now)) }
+    ensures front { OnErr result (AppendsFront (O.taken out.old) (O.taken out.new) (text_of plan.now)) }
+    ensures cause { IsErrOf result PlainFault.WriteFault → Rose (O.faults out.old) (O.faults out.new) }
+    ensures kept { (¬ IsErrOf result PlainFault.WriteFault) → O.faults out.new ≡ O.faults out.old }
+    ensures later { O.faults out.old ≤ O.faults out.new }
+{
+    let rows = plan.statements.as_slice();
+    for i in 0..rows.len() {
+        run_row(alloc, plan, i, run, out)?;
+    }
+    Ok(())
+}
+
+/// Runs the row that has `i` rows above it.
+fn run_row<O: Sink>(
+    alloc: Global,
+    plan: &Plan,
+    i: usize,
+    run: &mut Run,
+    out: &mut O,
+) -> Result<(), PlainFault>
+    requires well { IsWellFormed plan.now }
+    requires within { i < length plan.now.statements }
+    requires begun { HasRun plan.now (regions_above plan.now i) run.old }
+    ensures ran { OnOk result (HasRun plan.now (regions_above plan.now (i + 1)) run.new) }
+    ensures all { OnOk result (Appends (O.taken out.old) (O.taken out.new) (row_text plan.now i)) }
+    ensures front { OnErr result (AppendsFront (O.taken out.old) (O.taken out.new) (row_text plan.now i)) }
+    ensures cause { IsErrOf result PlainFault.WriteFault → Rose (O.faults out.old) (O.faults out.new) }
+    ensures kept { (¬ IsErrOf result PlainFault.WriteFault) → O.faults out.new ≡ O.faults out.old }
+    ensures later { O.faults out.old ≤ O.faults out.new }
+{
+    let what = &plan.statements.as_slice()[i].what;
+    if let What::Region(region) = what {
+        return Ok(run_region(alloc, plan, *region, run)?);
+    }
+    write_row(plan, &run.world, run.moved, what, &mut run.line, out)
+}
+
+/// Runs the tasks of the region that comes next, and counts what it moves.
+fn run_region(alloc: Global, plan: &Plan, region: u32, run: &mut Run) -> Result<(), AllocError>
+    requires well { IsWellFormed plan.now }
+    requires region { IsRegion plan.now region }
+    requires begun { HasRun plan.now (region - 1) run.old }
+    ensures { OnOk result (HasRun plan.now region run.new) }
+{
+    let tasks = tasks_of(plan, region);
+    run_tasks(alloc, plan.arrays.as_slice(), &mut run.world, tasks)?;
+    run.moved += run.moves.in_region(plan, region);
+    Ok(())
+}
+
+/// Writes what a row prints. `line` is only room for a line of it.
+fn write_row<O: Sink>(
+    plan: &Plan,
+    world: &[Vec<i64>],
+    moved: u64,
+    what: &What,
+    line: &mut Vec<u8>,
+    out: &mut O,
+) -> Result<(), PlainFault>
+    requires named { StatementNamesRows plan.now what.now }
+    requires sizes { HasSizes plan.now.arrays (lists_of world.now) }
+    ensures all { OnOk result (Appends (O.taken out.old) (O.taken out.new) (printed_by plan.now (lists_of world.now) moved what.now)) }
+    ensures front { OnErr result (AppendsFront (O.taken out.old) (O.taken out.new) (printed_by plan.now (lists_of world.now) moved what.now)) }
+    ensures cause { IsErrOf result PlainFault.WriteFault → Rose (O.faults out.old) (O.faults out.new) }
+    ensures kept { (¬ IsErrOf result PlainFault.WriteFault) → O.faults out.new ≡ O.faults out.old }
+    ensures later { O.faults out.old ≤ O.faults out.new }
+{
+    match what {
+        What::Print(array) => {
+            let place = *array as usize - 1;
+            let grid = plan.arrays.as_slice()[place].grid;
+            print_array(line, grid, &world[place], out)
+        }
+        What::Sum { array, name } => {
+            let place = *array as usize - 1;
+            print_sum(line, name.as_bytes(), &world[place], out)
+        }
+        What::Moved => print_moved(line, moved, out),
+        _ => Ok(()),
+    }
+}
