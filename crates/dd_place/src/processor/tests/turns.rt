@@ -1,0 +1,88 @@
+//! Tasks that go to the processors in turn.
+
+use super::cases::Case;
+use super::pieces::BLOCK_2;
+use dd_kernels::Mode;
+
+pub const ROUND_ROBIN: [Case; 8] = [
+    Case {
+        name: "the first of a region",
+        spaces: 1,
+        procs: &[1],
+        steps: &[],
+        region: 1,
+        pieces: &[],
+        earlier: &[],
+        wanted: 1,
+    },
+    Case {
+        name: "one processor runs all",
+        spaces: 1,
+        procs: &[1],
+        steps: &[],
+        region: 1,
+        pieces: &[],
+        earlier: &[1, 1, 1],
+        wanted: 1,
+    },
+    Case {
+        name: "the second of two",
+        spaces: 2,
+        procs: &[1, 2],
+        steps: &[],
+        region: 1,
+        pieces: &[],
+        earlier: &[1],
+        wanted: 2,
+    },
+    Case {
+        name: "behind the last the first again",
+        spaces: 2,
+        procs: &[1, 2],
+        steps: &[],
+        region: 1,
+        pieces: &[],
+        earlier: &[1, 2],
+        wanted: 1,
+    },
+    Case {
+        name: "three processors, seven tasks",
+        spaces: 3,
+        procs: &[1, 2, 3],
+        steps: &[],
+        region: 1,
+        pieces: &[],
+        earlier: &[1, 2, 3, 1, 2, 3, 1],
+        wanted: 2,
+    },
+    Case {
+        name: "five processors, four tasks",
+        spaces: 3,
+        procs: &[1, 1, 2, 2, 3],
+        steps: &[],
+        region: 1,
+        pieces: &[],
+        earlier: &[1, 2, 3, 4],
+        wanted: 5,
+    },
+    Case {
+        name: "whatever is written",
+        spaces: 3,
+        procs: &[1, 2, 3],
+        steps: &[],
+        region: 1,
+        pieces: &[(BLOCK_2, Mode::Write)],
+        earlier: &[],
+        wanted: 1,
+    },
+    Case {
+        name: "wherever the earlier ones ran",
+        spaces: 3,
+        procs: &[1, 2, 3],
+        steps: &[],
+        region: 1,
+        pieces: &[],
+        earlier: &[2, 2],
+        wanted: 3,
+    },
+];
