@@ -1,4 +1,5 @@
-/* The first profile of ddeps by hand: the measure that the proved program is held to. It trusts its input. */
+/* A small part of the language by hand, on arrays of one block: the measure that the proved program is held to.
+   It trusts its input. */
 #include <stdint.h>
 #include <stdio.h>
 #include <stdlib.h>
