@@ -2,11 +2,13 @@
 use Rattle.std.proofs.Common.{◌≡◌, ℕ, suc, ◌+◌, ◌-◌, ◌*◌, ◌<◌, cond, eqb, ℤ, pos, List, [], ◌∷◌, ◌++◌, length, map, refl, sym, ap, ◌∙◌, arith}
 use Rattle.std.proofs.lemmas.Bool.{ne_eqb}
 use Rattle.std.specs.List.{join_with_byte, range_with_len, flat_map}
-use Rattle.std.specs.Prelude.{slice_index_or}
+use Rattle.std.specs.Prelude.{Option, slice_index_or}
 use Rattle.std.specs.Fmt.{signed_decimal}
 use Rattle.std.proofs.lemmas.List.{append_assoc}
 use Rattle.std.proofs.lemmas.List.FromFn.{map-range_with_len_more, length-map-range_with_len}
 use Rattle.dd_blocks.specs.declared.grid.Grid.{Grid}
+use Rattle.dd_causes.specs.Appended.{AppendsAllBut}
+use Rattle.dd_causes.proofs.AppendedLemmas.{all_but_more}
 
 -- what stands before one more piece
 between : ℕ → List (List ℕ) → List ℕ
@@ -44,3 +46,7 @@ pub next_left : (f : ℕ → List ℕ) (i n : ℕ) → i < n → flat_map f (ran
 next_left f i n l =
     let e : n - i ≡ suc (n - (i + 1)) = omega arith in
     ap (λ k. flat_map f (range_with_len i k)) e
+
+-- a row more was added to the rows that wait, and some of these were written
+pub waiting_more : {old mid new : Option (List ℕ)} {waiting whole : List ℕ} (rows row rest : List ℕ) → AppendsAllBut old mid (rows ++ (row ++ rest)) whole → AppendsAllBut mid new waiting (rows ++ row) → AppendsAllBut old new (waiting ++ rest) whole
+waiting_more {old} {mid} {new} {waiting} rows row rest f g = all_but_more f g.done (waiting ++ rest) (sym (append_assoc rows row rest) ∙ ap (λ l. l ++ rest) g.split ∙ append_assoc g.done waiting rest) g.grown

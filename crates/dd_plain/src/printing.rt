@@ -1,9 +1,9 @@
-//! What is printed, line by line, each by one `write_all`.
+//! What is printed: arrays by many rows together, sums and moved elements by a line, each by one `write_all`.
 ghost use Rattle.std.specs.Prelude.{◌≡◌, ℕ, ◌+◌, ◌*◌, ◌<◌, ◌≤◌, ◌∷◌, ◌++◌, Bool, [], length, codes, OnOk, OnErr, if◌then◌else◌, IsErrOf};
 ghost use Rattle.std.specs.Fmt.{decimal, signed_decimal};
 ghost use Rattle.std.specs.Io.KnownBytes.{Appends};
 ghost use Rattle.dd_causes.specs.Counts.{Rose};
-ghost use Rattle.dd_causes.specs.Appended.{AppendsFront};
+ghost use Rattle.dd_causes.specs.Appended.{AppendsAllBut, AppendsFront};
 ghost use Rattle.dd_blocks.specs.Grids.{element_count};
 ghost use Rattle.dd_kernels.specs.Lists.{element, sum_below, wrapped};
 ghost use Rattle.dd_meaning.specs.Text.{printed_row, printed, summed, moved_line};
@@ -46,9 +46,26 @@ fn push_row(line: &mut Vec<u8>, grid: Grid, values: &[i64], i: u32) -> Result<()
     Ok(())
 }
 
-/// Writes row `i`, from 0, of an array. `line` is only room for it.
+/// How many bytes of rows are enough to be written together.
+const ENOUGH: usize = 65_536;
+
+/// Writes the rows that wait, and none waits then.
+fn write_rows<O: Sink>(rows: &mut Vec<u8>, out: &mut O) -> Result<(), PlainFault>
+    ensures all { OnOk result (Appends (O.taken out.old) (O.taken out.new) rows.old.items) }
+    ensures none { OnOk result (rows.new.items ≡ []) }
+    ensures front { OnErr result (AppendsFront (O.taken out.old) (O.taken out.new) rows.old.items) }
+    ensures cause { IsErrOf result PlainFault.WriteFault → Rose (O.faults out.old) (O.faults out.new) }
+    ensures kept { (¬ IsErrOf result PlainFault.WriteFault) → O.faults out.new ≡ O.faults out.old }
+    ensures later { O.faults out.old ≤ O.faults out.new }
+{
+    write_all(out, rows)?;
+    rows.clear();
+    Ok(())
+}
+
+/// Adds row `i`, from 0, of an array to the rows that wait, and writes these where they are enough.
 fn print_row<O: Sink>(
-    line: &mut Vec<u8>,
+    rows: &mut Vec<u8>,
     grid: Grid,
     values: &[i64],
     i: u32,
@@ -56,21 +73,22 @@ fn print_row<O: Sink>(
 ) -> Result<(), PlainFault>
     requires within { i < grid.rows }
     requires filled { length values.now ≡ element_count grid }
-    ensures all { OnOk result (Appends (O.taken out.old) (O.taken out.new) (printed_row grid values.now i)) }
-    ensures front { OnErr result (AppendsFront (O.taken out.old) (O.taken out.new) (printed_row grid values.now i)) }
+    ensures all { OnOk result (AppendsAllBut (O.taken out.old) (O.taken out.new) rows.new.items (rows.old.items ++ printed_row grid values.now i)) }
+    ensures front { OnErr result (AppendsFront (O.taken out.old) (O.taken out.new) (rows.old.items ++ printed_row grid values.now i)) }
     ensures cause { IsErrOf result PlainFault.WriteFault → Rose (O.faults out.old) (O.faults out.new) }
     ensures kept { (¬ IsErrOf result PlainFault.WriteFault) → O.faults out.new ≡ O.faults out.old }
     ensures later { O.faults out.old ≤ O.faults out.new }
 {
-    line.clear();
-    push_row(line, grid, values, i)?;
-    write_all(out, line)?;
-    Ok(())
+    push_row(rows, grid, values, i)?;
+    if rows.len() < ENOUGH {
+        return Ok(());
+    }
+    write_rows(rows, out)
 }
 
-/// Writes an array row by row.
+/// Writes an array row by row, several together. `rows` is only room for them.
 pub(crate) fn print_array<O: Sink>(
-    line: &mut Vec<u8>,
+    rows: &mut Vec<u8>,
     grid: Grid,
     values: &[i64],
     out: &mut O,
@@ -82,10 +100,11 @@ pub(crate) fn print_array<O: Sink>(
     ensures kept { (¬ IsErrOf result PlainFault.WriteFault) → O.faults out.new ≡ O.faults out.old }
     ensures later { O.faults out.old ≤ O.faults out.new }
 {
+    rows.clear();
     for i in 0..grid.rows {
-        print_row(line, grid, values, i, out)?;
+        print_row(rows, grid, values, i, out)?;
     }
-    Ok(())
+    write_rows(rows, out)
 }
 
 /// The sum of an array. It wraps.
