@@ -1,30 +1,22 @@
-/* A small part of the language by hand, on arrays of one block: the measure that the proved program is held to.
-   It trusts its input. */
-#include <stdint.h>
-#include <stdio.h>
+/* What the text of a script costs by hand: it is read, cut into tokens, its names are looked up, it is run and printed.
+ * The program trusts its input, and knows the statements and the kernel of the works on text of bench/works. */
 #include <stdlib.h>
 #include <string.h>
 #include <unistd.h>
+#include "put.h"
 
-enum { ARRAYS = 256, TOKENS = 64 };
-struct array { char name[65]; int rows, cols; int64_t *values; };
-static struct array arrays[ARRAYS];
-static int count;
+enum { SLOTS = 1024, TOKENS = 64 };
+struct array { const char *name; int len, rows, cols; int64_t *values; };
+static struct array arrays[SLOTS];
 
+// the array of a name, or the slot for it
 static struct array *find(const char *name, int len) {
-    for (int i = 0; i < count; i++)
-        if (!strncmp(arrays[i].name, name, len) && !arrays[i].name[len]) return &arrays[i];
-    exit(9);
-}
-
-static char *put(char *at, int64_t value) {
-    char digits[20];
-    int n = 0;
-    uint64_t left = value < 0 ? 0 - (uint64_t)value : (uint64_t)value;
-    if (value < 0) *at++ = '-';
-    do { digits[n++] = '0' + left % 10; left /= 10; } while (left);
-    while (n) *at++ = digits[--n];
-    return at;
+    unsigned slot = 0;
+    for (int i = 0; i < len; i++) slot = slot * 31 + name[i];
+    for (;; slot++) {
+        struct array *a = &arrays[slot % SLOTS];
+        if (!a->len || (a->len == len && !memcmp(a->name, name, len))) return a;
+    }
 }
 
 static void print(struct array *a) {
@@ -40,7 +32,35 @@ static void print(struct array *a) {
     }
 }
 
-static int is_word(char c) { return c == '_' || (c >= 'a' && c <= 'z') || (c >= 'A' && c <= 'Z') || (c >= '0' && c <= '9'); }
+// all of an array, or one of its elements: task neg InOut ( NAME ), or NAME [ ROW , COLUMN ]
+static void negate(char **token, const int *len) {
+    struct array *a = find(token[4], len[4]);
+    int size = a->rows * a->cols;
+    int64_t *x = a->values;
+    if (*token[5] == '[') {
+        x += (atoi(token[8]) - 1) * a->rows + atoi(token[6]) - 1;
+        size = 1;
+    }
+    for (int i = 0; i < size; i++) x[i] = 0 - (uint64_t)x[i];
+}
+
+static void make(char **token, const int *len) {
+    struct array *a = find(token[1], len[1]);
+    a->name = token[1];
+    a->len = len[1];
+    a->rows = atoi(token[2]);
+    a->cols = atoi(token[3]);
+    a->values = malloc(8 * a->rows * a->cols);
+    for (int i = 0; i < a->rows * a->cols; i++) a->values[i] = strtoll(token[7], 0, 10);
+}
+
+static int is_word(char c) {
+    return c == '_' || (c >= 'a' && c <= 'z') || (c >= 'A' && c <= 'Z') || (c >= '0' && c <= '9');
+}
+
+static int is(const char *word, const char *token, int len) {
+    return (int)strlen(word) == len && !memcmp(word, token, len);
+}
 
 static void line(char *s, char *end) {
     char *token[TOKENS];
@@ -53,29 +73,11 @@ static void line(char *s, char *end) {
         token[n] = first;
         len[n++] = s - first;
     }
-    if (!n) return;
-    if (len[0] == 5 && !memcmp(token[0], "array", 5)) {
-        struct array *a = &arrays[count++];
-        memcpy(a->name, token[1], len[1]);
-        a->rows = atoi(token[2]);
-        a->cols = atoi(token[3]);
-        int64_t fill = *token[6] == 'z' ? 0 : strtoll(token[7], 0, 10);
-        a->values = malloc(8 * a->rows * a->cols);
-        for (int i = 0; i < a->rows * a->cols; i++) a->values[i] = fill;
-    } else if (len[0] == 4 && !memcmp(token[0], "task", 4)) {
-        if (*token[1] == 'f') {
-            struct array *x = find(token[5], len[5]);
-            int64_t k = strtoll(token[2], 0, 10);
-            for (int i = 0; i < x->rows * x->cols; i++) x->values[i] = k;
-        } else {
-            struct array *x = find(token[4], len[4]), *y = find(token[8], len[8]);
-            int size = x->rows * x->cols;
-            if (*token[1] == 'c') memmove(x->values, y->values, 8 * size);
-            else for (int i = 0; i < size; i++) x->values[i] = (uint64_t)x->values[i] + (uint64_t)y->values[i];
-        }
-    } else if (len[0] == 5 && !memcmp(token[0], "print", 5)) {
-        print(find(token[1], len[1]));
-    }
+    if (!n || is("region", token[0], len[0]) || is("end", token[0], len[0])) return;
+    if (is("array", token[0], len[0])) make(token, len);
+    else if (is("task", token[0], len[0]) && is("neg", token[1], len[1])) negate(token, len);
+    else if (is("print", token[0], len[0])) print(find(token[1], len[1]));
+    else exit(9);
 }
 
 int main(void) {
