@@ -131,7 +131,8 @@ stands_inside _ = false
 abbrev pub IsMisplaced : Above → Statement → Type 0
 IsMisplaced s x = is_some s.opened ≢ stands_inside x
 
--- a limit is passed: what there would be of each quantity, with its limit, in the order in which they are named
+-- a limit is passed: what there would be of each quantity, with its limit. Where a line passes several, the first of these is
+-- named
 
 abbrev pub array_of_name : Above → List ℕ → ℕ
 array_of_name s name = unwrap_or (array_named s name) 0
