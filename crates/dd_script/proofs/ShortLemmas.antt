@@ -1,5 +1,5 @@
 -- What a line says on the machine is short.
-use Rattle.std.proofs.Common.{◌≡◌, ℕ, ◌^◌, ◌≤◌, true, nat_le, List, length, ℤ, pos, negsuc, Option, None, Some, subst, arith, unsigned_abs}
+use Rattle.std.proofs.Common.{◌≡◌, ℕ, ◌≤◌, true, nat_le, List, length, ℤ, pos, negsuc, Option, None, Some, subst, arith, unsigned_abs}
 use Rattle.std.specs.List.{All}
 use Rattle.std.proofs.lemmas.Bool.{and_parts, leb-true}
 use Rattle.std.proofs.lemmas.List.Elements.{All-map, All-weaker}

@@ -1,5 +1,5 @@
 -- The numbers that a line may have.
-use Rattle.std.specs.Prelude.{ℕ, ℤ, pos, negsuc, Bool, true, false, ◌&&◌, nat_lt, nat_le, Option, None, Some, List}
+use Rattle.std.specs.Prelude.{ℤ, pos, negsuc, Bool, true, false, ◌&&◌, nat_le, Option, None, Some}
 use Rattle.std.specs.List.{list_all}
 use Rattle.dd_blocks.specs.Limits.{space_limit}
 use Rattle.dd_script.specs.declared.index.Index.{Index}
