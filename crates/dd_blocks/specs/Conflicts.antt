@@ -24,10 +24,7 @@ writes Both = true
 abbrev pub HasElement : AccessRow → ℕ → ℕ → Type 0
 HasElement access array pos = (access.view.array ≡ array) × Contains (index_list access.view) pos
 
--- the task reads the element, writes it, or does one of both
-abbrev pub ReadsElement : TaskRow → ℕ → ℕ → Type 0
-ReadsElement task array pos = Any (λ (a : AccessRow). (reads a.mode ≡ true) × HasElement a array pos) task.accesses
-
+-- the task writes the element; it reads it, writes it or both
 abbrev pub WritesElement : TaskRow → ℕ → ℕ → Type 0
 WritesElement task array pos = Any (λ (a : AccessRow). (writes a.mode ≡ true) × HasElement a array pos) task.accesses
 

@@ -1,11 +1,11 @@
--- The limits of a script, in the order in which they are named where a line passes several.
+-- The limits of a script.
 use Rattle.std.specs.Prelude.{ℕ}
 
 -- of the text, in bytes
 abbrev pub text_limit : ℕ
 text_limit = 1048576
 
--- of a name, in bytes
+-- of a name, in bytes: no word of a line has more
 abbrev pub name_limit : ℕ
 name_limit = 64
 

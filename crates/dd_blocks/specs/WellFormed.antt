@@ -78,10 +78,16 @@ pub record IsSmallRegion (plan : Plan) (region : ℕ) : Type 0 where
   pub tasks : length (tasks_of plan region) ≤ region_tasks_limit
   pub elements : sum_by access_elements (tasks_of plan region) ≤ region_elements_limit
 
+-- The name that a statement prints is short.
+abbrev pub HasShortName : What → Type 0
+HasShortName (Sum array name) = length name ≤ name_limit
+HasShortName _ = Unit {0}
+
 pub record KeepsLimits (plan : Plan) : Type 0 where
   pub each_space : All IsSmallSpace plan.spaces
   pub each_proc : All (λ (p : ProcRow). length p.name ≤ name_limit) plan.procs
   pub each_array : All HasSmallEdges plan.arrays
+  pub each_statement : All (λ (row : StatementRow). HasShortName row.what) plan.statements
   pub spaces : length plan.spaces ≤ spaces_limit
   pub procs : length plan.procs ≤ procs_limit
   pub arrays : length plan.arrays ≤ arrays_limit

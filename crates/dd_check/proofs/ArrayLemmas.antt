@@ -18,7 +18,7 @@ use Rattle.dd_blocks.specs.Limits.{arrays_limit, blocks_limit, edge_limit, eleme
 use Rattle.dd_blocks.specs.Lives.{IsLive, array_put}
 use Rattle.dd_blocks.specs.Numbered.{IsNumberIn, no_array, no_task, space_row}
 use Rattle.dd_blocks.specs.Touches.{touches_in}
-use Rattle.dd_blocks.specs.WellFormed.{FitsHomes, HasSmallEdges, IsFromOneTo, TaskNamesRows}
+use Rattle.dd_blocks.specs.WellFormed.{FitsHomes, HasShortName, HasSmallEdges, IsFromOneTo, TaskNamesRows}
 use Rattle.dd_script.specs.declared.statement.Statement.TheVariants.{Array}
 use Rattle.dd_check.specs.Above.{Above, open_tasks_of}
 use Rattle.dd_check.specs.Entering.{add_array, add_statement, with_name, with_plan}
@@ -191,6 +191,7 @@ module _ (n : ℕ) (s : Above) (row : ArrayRow) (name : List ℕ) (sound : IsSou
       each_space = sound.limits.each_space;
       each_proc = sound.limits.each_proc;
       each_array = All-push HasSmallEdges s.plan.arrays row sound.limits.each_array next.edges;
+      each_statement = All-push (λ (r : StatementRow). HasShortName r.what) s.plan.statements statement sound.limits.each_statement tt;
       spaces = sound.limits.spaces;
       procs = sound.limits.procs;
       arrays = omega (arith, length-append s.plan.arrays (row ∷ []), next.arrays);

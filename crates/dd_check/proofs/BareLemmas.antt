@@ -53,6 +53,7 @@ bare_sound n spaces procs policy rule live settled small unnamed with_proc with_
     each_space = small.each_space;
     each_proc = small.each_proc;
     each_array = λ k d lt. absurd (omega arith);
+    each_statement = λ k d lt. absurd (omega arith);
     spaces = small.spaces_few;
     procs = small.procs_few;
     arrays = omega arith;

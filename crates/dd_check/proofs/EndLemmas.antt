@@ -3,7 +3,7 @@ use Rattle.std.proofs.Common.{◌≡◌, ◌≢◌, ℕ, suc, ◌+◌, ◌-◌, 
 use Rattle.std.specs.List.{All, Contains, filter, flat_map, range_with_len, sum_by}
 use Rattle.std.proofs.lemmas.Bool.{cases_eq, cases_lt, eq-eqb, ne_eqb}
 use Rattle.std.proofs.lemmas.List.{append-nil, length-append}
-use Rattle.std.proofs.lemmas.List.Elements.{All-append, All-weaker, filter-append, filter_map-append}
+use Rattle.std.proofs.lemmas.List.Elements.{All-append, All-push, All-weaker, filter-append, filter_map-append}
 use Rattle.std.proofs.lemmas.List.Sums.{sum_by-append}
 use Rattle.dd_views.proofs.ListsLemmas.{range_with_len_more}
 use Rattle.dd_blocks.specs.declared.access_row.AccessRow.{AccessRow}
@@ -17,7 +17,7 @@ use Rattle.dd_blocks.specs.Lives.{IsLive, region_run, regions_run, tasks_of}
 use Rattle.dd_blocks.specs.Numbered.{IsNumberIn, no_task, numbered, task_row}
 use Rattle.dd_blocks.specs.Tasks.{IsDependency, IsSoundTask}
 use Rattle.dd_blocks.specs.Touches.{touches_in}
-use Rattle.dd_blocks.specs.WellFormed.{IsRegion, IsSmallRegion, TaskNamesRows}
+use Rattle.dd_blocks.specs.WellFormed.{HasShortName, IsRegion, IsSmallRegion, TaskNamesRows}
 use Rattle.dd_place.specs.Premises.{HasBlocks}
 use Rattle.dd_check.specs.Above.{Above, next_region, open_tasks}
 use Rattle.dd_check.specs.Entering.{add_statement, add_tasks, with_open, with_plan}
@@ -241,6 +241,7 @@ module _ (n : ℕ) (s : Above) (found : List (List ℕ)) (sound : IsSound n s) (
       each_space = sound.limits.each_space;
       each_proc = sound.limits.each_proc;
       each_array = sound.limits.each_array;
+      each_statement = All-push (λ (r : StatementRow). HasShortName r.what) s.plan.statements row sound.limits.each_statement tt;
       spaces = sound.limits.spaces;
       procs = sound.limits.procs;
       arrays = sound.limits.arrays;

@@ -56,7 +56,7 @@ kept_found n s Region after few short sound settled clear enters = subst (IsSoun
 kept_found n s (Task kernel scalar pieces) after few short sound settled clear enters = task_enters n s kernel scalar pieces after few sound (settled refl) clear enters
 kept_found n s End after few short sound settled clear enters = end_enters n s after few sound (settled refl) clear enters
 kept_found n s (Print name) after few short sound settled clear enters = subst (IsSound (suc n)) (sym enters) (print_enters n s sound (settled refl) name clear)
-kept_found n s (Sum name) after few short sound settled clear enters = subst (IsSound (suc n)) (sym enters) (sum_enters n s sound (settled refl) name clear)
+kept_found n s (Sum name) after few short sound settled clear enters = subst (IsSound (suc n)) (sym enters) (sum_enters n s sound (settled refl) name short clear)
 kept_found n s Moved after few short sound settled clear enters = subst (IsSound (suc n)) (sym enters) (moved_enters n s sound (settled refl) clear)
 
 -- what a statement finds

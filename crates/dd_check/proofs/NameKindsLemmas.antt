@@ -46,6 +46,7 @@ module _ (n : ℕ) (s : Above) (sound : IsSound n s) (settled : s.settled ≡ tr
       plain_sound n s (what.Same (array_of_name s old)) (renamed name (s.live old) s.live) sound (ready_for n (suc n) s (Same name old) sound settled refl clear) (closed_for s.opened false refl clear.place)
       (record {
         names = there.0;
+        short = tt;
         stands = record { live = All_one (IsLive s.plan.statements) (array_of_name s old) there.1; last = tt };
         puts = refl;
         runs = refl;
@@ -92,6 +93,7 @@ module _ (n : ℕ) (s : Above) (sound : IsSound n s) (settled : s.settled ≡ tr
       plain_sound n s (what.Drop (array_of_name s name) (is_last (array_of_name s name))) (renamed name None s.live) sound (ready_for n (suc n) s (Drop name) sound settled refl clear) (closed_for s.opened false refl clear.place)
       (record {
         names = there.0;
+        short = tt;
         stands = record {
           live = All_one (IsLive s.plan.statements) (array_of_name s name) there.1;
           last = ((λ last. eqb-true _ _ last), (λ same. eq-eqb _ _ same));

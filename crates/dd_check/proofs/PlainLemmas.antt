@@ -1,6 +1,7 @@
 -- A statement of which only a row is left.
 use Rattle.std.proofs.Common.{◌≡◌, ℕ, suc, ◌+◌, ◌*◌, ◌≤◌, List, [], get_or, Option, None, Some, refl, ap, arith}
 use Rattle.std.specs.List.{All}
+use Rattle.std.proofs.lemmas.List.Elements.{All-push}
 use Rattle.dd_blocks.specs.declared.block_row.BlockRow.{BlockRow}
 use Rattle.dd_blocks.specs.declared.plan.Plan.{Plan}
 use Rattle.dd_blocks.specs.declared.statement_row.StatementRow.{StatementRow}
@@ -10,7 +11,7 @@ use Rattle.dd_blocks.specs.Limits.{touches_limit}
 use Rattle.dd_blocks.specs.Lives.{MayStand, array_put, region_run}
 use Rattle.dd_blocks.specs.Numbered.{space_row}
 use Rattle.dd_blocks.specs.Touches.{touches_in, touches_of}
-use Rattle.dd_blocks.specs.WellFormed.{StatementNamesRows, TaskNamesRows}
+use Rattle.dd_blocks.specs.WellFormed.{HasShortName, StatementNamesRows, TaskNamesRows}
 use Rattle.dd_blocks.specs.Numbered.{no_task}
 use Rattle.dd_check.specs.Above.{Above, open_tasks, open_tasks_of}
 use Rattle.dd_check.specs.Entering.{add_statement}
@@ -23,6 +24,7 @@ use Rattle.dd_check.proofs.PushLemmas.{IsReady, line_push, more_regions, no_task
 -- what holds of such a statement
 pub record IsPlain (plan : Plan) (what : What) : Type 0 where
   pub names : StatementNamesRows plan what
+  pub short : HasShortName what
   pub stands : MayStand plan plan.statements what
   pub puts : array_put what ≡ None
   pub runs : region_run what ≡ None
@@ -78,6 +80,7 @@ module _ (n : ℕ) (s : Above) (what : What) (live : List ℕ → Option ℕ) (s
       each_space = sound.limits.each_space;
       each_proc = sound.limits.each_proc;
       each_array = sound.limits.each_array;
+      each_statement = All-push (λ (r : StatementRow). HasShortName r.what) s.plan.statements row sound.limits.each_statement plain.short;
       spaces = sound.limits.spaces;
       procs = sound.limits.procs;
       arrays = sound.limits.arrays;

@@ -10,7 +10,7 @@ use Rattle.dd_blocks.specs.declared.what.What.{What}
 use Rattle.dd_blocks.specs.declared.what.What.TheVariants as what
 use Rattle.dd_blocks.specs.Homes.{space_moved_to}
 use Rattle.dd_blocks.specs.Layout.{blocks_of_array}
-use Rattle.dd_blocks.specs.Limits.{touches_limit}
+use Rattle.dd_blocks.specs.Limits.{name_limit, touches_limit}
 use Rattle.dd_blocks.specs.Lives.{IsLive}
 use Rattle.dd_blocks.specs.Numbered.{IsNumberIn, array_row, space_row}
 use Rattle.dd_blocks.specs.Touches.{touches_in}
@@ -61,6 +61,7 @@ module _ (n : ℕ) (s : Above) (sound : IsSound n s) (settled : s.settled ≡ tr
       plain_sound n s (what.Print (array_of_name s name)) s.live sound (ready_for n (suc n) s (Print name) sound settled refl clear) closed
       (record {
         names = there.0;
+        short = tt;
         stands = record { live = All_one (IsLive s.plan.statements) (array_of_name s name) there.1; last = tt };
         puts = refl;
         runs = refl;
@@ -69,13 +70,14 @@ module _ (n : ℕ) (s : Above) (sound : IsSound n s) (settled : s.settled ≡ tr
       })
       (names_plain (suc n) s (what.Print (array_of_name s name)) (λ array. refl) (λ array. refl) (λ array same. absurd (cc)) sound.names)
 
-  pub sum_enters : (name : List ℕ) → Clear (suc n) s (Sum name) → IsSound (suc n) (add_row (suc n) (what.Sum (array_of_name s name) name) s)
-  sum_enters name clear =
+  pub sum_enters : (name : List ℕ) → length name ≤ name_limit → Clear (suc n) s (Sum name) → IsSound (suc n) (add_row (suc n) (what.Sum (array_of_name s name) name) s)
+  sum_enters name short clear =
       let there : IsNumberIn s.plan.arrays (array_of_name s name) × IsLive s.plan.statements (array_of_name s name) = array_there n s name sound clear.unknown in
       let closed : s.opened ≡ None = closed_for s.opened false refl clear.place in
       plain_sound n s (what.Sum (array_of_name s name) name) s.live sound (ready_for n (suc n) s (Sum name) sound settled refl clear) closed
       (record {
         names = there.0;
+        short = short;
         stands = record { live = All_one (IsLive s.plan.statements) (array_of_name s name) there.1; last = tt };
         puts = refl;
         runs = refl;
@@ -89,6 +91,7 @@ module _ (n : ℕ) (s : Above) (sound : IsSound n s) (settled : s.settled ≡ tr
       plain_sound n s what.Moved s.live sound (ready_for n (suc n) s Moved sound settled refl clear) (closed_for s.opened false refl clear.place)
       (record {
         names = tt;
+        short = tt;
         stands = record { live = λ k d lt. absurd (omega arith); last = tt };
         puts = refl;
         runs = refl;
@@ -118,6 +121,7 @@ module _ (n : ℕ) (s : Above) (sound : IsSound n s) (settled : s.settled ≡ tr
       plain_sound n s (what.MoveTo (array_of_name s name) (space_of_name s space)) s.live sound (ready_for n (suc n) s (MoveTo name space) sound settled refl clear) closed
       (record {
         names = (there.0, space_there s.plan space (λ none. clear.unknown (inr none)));
+        short = tt;
         stands = record { live = All_one (IsLive s.plan.statements) (array_of_name s name) there.1; last = tt };
         puts = refl;
         runs = refl;

@@ -25,6 +25,7 @@ limits = record {
   each_space = λ k d low. none_below k low;
   each_proc = λ k d low. none_below k low;
   each_array = λ k d low. none_below k low;
+  each_statement = λ k d low. none_below k low;
   spaces = omega arith;
   procs = omega arith;
   arrays = omega arith;

@@ -1,5 +1,5 @@
 -- The first fault of a text.
-use Rattle.std.specs.Prelude.{◌≡◌, ◌⊎◌, ℕ, ◌+◌, ◌<◌, List, [], ◌∷◌, length, Option, None, Some}
+use Rattle.std.specs.Prelude.{◌≡◌, ◌⊎◌, ℕ, ◌+◌, ◌<◌, ◌≤◌, List, [], ◌∷◌, length, None, Some}
 use Rattle.dd_tokens.specs.declared.fault.LineFault.TheVariants as unread
 use Rattle.dd_tokens.specs.declared.token.Token.{Token}
 use Rattle.dd_tokens.specs.Lexeme.{lexemes_of}
@@ -41,7 +41,9 @@ Holds BlockTooLarge n s x a b = HasLargeBlock s x a b
 Holds TaskTooLarge n s x a b = HasLargeTask n s x a b
 Holds _ n s x a b = ⊥
 
--- the order in which the kinds are asked of a statement
+-- The order in which the kinds are asked of a statement. Before a line is a statement, its bytes are asked for NotText, its
+-- tokens for BadForm and UnknownStatement, its numbers for BadNumber and its words for UnknownPart, each where those before it
+-- don't hold. TooLong is asked before all lines, and UnendedRegion behind them.
 abbrev pub kinds : List Kind
 kinds = UnknownName ∷ NameTaken ∷ LateMachine ∷ NoProc ∷ BadShape ∷ UnknownKernel ∷ ArgCount ∷ BadAccess ∷ BadRange ∷ NotSquare ∷ ShapeMismatch ∷ WrongPlace ∷ TooMany ∷ BlockTooLarge ∷ TaskTooLarge ∷ []
 
@@ -99,15 +101,22 @@ pub record IsUnended (text : List ℕ) (fault : Fault) : Type 0 where
   pub opened : after.opened ≡ Some region
   pub is : fault ≡ record { line = region.line; kind = UnendedRegion; a = 0; b = 0 }
 
+-- the text has more bytes than a script may have, and this is the fault then
+abbrev pub too_long : Fault
+too_long = record { line = 0; kind = TooLong; a = text_limit; b = 0 }
+
+abbrev pub IsTooLong : List ℕ → Fault → Type 0
+IsTooLong text fault = (text_limit < length text) × (fault ≡ too_long)
+
 -- the first fault of a text
 abbrev pub IsFault : List ℕ → Fault → Type 0
 IsFault text fault =
-    ((text_limit < length text) × (fault ≡ record { line = 0; kind = TooLong; a = text_limit; b = 0 }))
-    ⊎ ((length text < text_limit + 1) × (IsRefusedIn 1 nothing_above (lines_of text) fault ⊎ IsUnended text fault))
+    IsTooLong text fault
+    ⊎ ((length text ≤ text_limit) × (IsRefusedIn 1 nothing_above (lines_of text) fault ⊎ IsUnended text fault))
 
 -- the text has no fault, and makes this Plan
 pub record IsPlanOf (text : List ℕ) (plan : Plan) : Type 0 where
-  pub short : length text < text_limit + 1
+  pub short : length text ≤ text_limit
   pub after : Above
   pub taken : AreTaken 1 nothing_above (lines_of text) after
   pub closed : after.opened ≡ None

@@ -54,7 +54,7 @@ abbrev pub moved_above : Plan → ℕ → ℕ
 moved_above plan i = sum_by (moved plan) (range_with_len 1 (regions_above plan i))
 
 abbrev pub row_text : Plan → ℕ → List ℕ
-row_text plan i = printed_by plan (world_at plan i) (moved_above plan i) (slice_index_or plan.statements i (record { line = 0; what = Moved })).what
+row_text plan i = printed_by plan (world_at plan i) (moved_above plan i) (slice_index_or plan.statements i (record { line = 0; what = Put 0 })).what
 
 -- the text of a script
 abbrev pub text_of : Plan → List ℕ

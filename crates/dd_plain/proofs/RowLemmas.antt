@@ -73,7 +73,7 @@ other_row plan rows i d same other = ap (λ (l : List StatementRow). region_run 
 -- the text of a row
 pub text_at : (plan : Plan) (rows : List StatementRow) (i : ℕ) (d : StatementRow) (world : World) (so_far : ℕ) → rows ≡ plan.statements → i < length plan.statements → world ≡ world_at plan i → so_far ≡ moved_above plan i → printed_by plan world so_far (get_or rows i d).what ≡ row_text plan i
 text_at plan rows i d world so_far same lt is count =
-    let none : StatementRow = record { line = 0; what = Moved } in
+    let none : StatementRow = record { line = 0; what = Put 0 } in
     ap (λ (l : List StatementRow). printed_by plan world so_far (get_or l i d).what) same
     ∙ ap (λ (row : StatementRow). printed_by plan world so_far row.what) (get_or_default plan.statements i d none lt)
     ∙ ap2 (λ (w : World) (n : ℕ). printed_by plan w n (get_or plan.statements i none).what) is count

@@ -1,12 +1,12 @@
 -- What is read as an argument was spelled so, and what is spelled is read again.
-use Rattle.std.proofs.Common.{◌≡◌, ℕ, ℤ, ◌<◌, ◌≤◌, zero, suc, List, [], ◌∷◌, ◌++◌, length, true, false, Option, Some, None, refl, sym, ap, subst, ◌∙◌, inl, inr, arith}
+use Rattle.std.proofs.Common.{◌≡◌, ℕ, ◌<◌, List, [], ◌∷◌, ◌++◌, length, true, false, Option, Some, None, refl, sym, ap, ◌∙◌, inl, inr, arith}
 use Rattle.std.specs.List.{flat_map}
 use Rattle.std.proofs.lemmas.Option.{same_Some}
 use Rattle.std.proofs.lemmas.List.{append_assoc, append-nil, length-map}
-use Rattle.dd_causes.specs.Steps.{◌>>=◌, either_way}
+use Rattle.dd_causes.specs.Steps.{◌>>=◌}
 use Rattle.dd_causes.proofs.StepsLemmas.{bind_some, which_way}
 use Rattle.dd_tokens.specs.declared.token.Token.{Token}
-use Rattle.dd_tokens.specs.Lexeme.{Lexeme, word, number, mark, lexemes_of}
+use Rattle.dd_tokens.specs.Lexeme.{Lexeme, word, mark, lexemes_of}
 use Rattle.dd_script.specs.declared.viewed.Viewed.{Viewed}
 use Rattle.dd_script.specs.declared.viewed.Viewed.TheVariants.{Whole, Indexed}
 use Rattle.dd_script.specs.declared.pair.Pair.{Pair}

@@ -1,12 +1,11 @@
 -- What is read as a statement was spelled so, and what is spelled is read again.
-use Rattle.std.proofs.Common.{◌≡◌, ℕ, ℤ, true, false, cond, List, [], ◌∷◌, ◌++◌, Option, Some, None, refl, sym, ap, subst, ◌∙◌, codes, inl, inr}
+use Rattle.std.proofs.Common.{◌≡◌, ℕ, ℤ, true, List, [], ◌∷◌, ◌++◌, Option, Some, None, refl, sym, ap, ◌∙◌, codes, inl, inr}
 use Rattle.std.specs.List.{flat_map}
 use Rattle.std.specs.Option.{option_map}
 use Rattle.std.specs.Str.{bytes_eq}
 use Rattle.std.specs.Cmp.Lexicographic.{bytes_decides}
 use Rattle.std.proofs.lemmas.Option.{same_Some}
 use Rattle.std.proofs.lemmas.List.{append-nil}
-use Rattle.dd_causes.specs.Steps.{◌>>=◌}
 use Rattle.dd_causes.proofs.StepsLemmas.{bind_some, guard_some, chosen}
 use Rattle.dd_tokens.specs.Lexeme.{Lexeme, word, number, mark}
 use Rattle.dd_blocks.specs.declared.policy.Policy.{Policy}

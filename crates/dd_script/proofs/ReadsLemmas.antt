@@ -1,5 +1,5 @@
 -- A line says one thing at most, and which answers of its form say what.
-use Rattle.std.proofs.Common.{◌≡◌, ◌↔◌, ℕ, zero, suc, ◌<◌, true, false, List, [], ◌∷◌, length, Option, Some, None, refl, sym, ap, subst, ◌∙◌, arith}
+use Rattle.std.proofs.Common.{◌≡◌, ◌↔◌, ℕ, suc, ◌<◌, true, List, [], ◌∷◌, length, Option, Some, None, refl, sym, ap, subst, ◌∙◌, arith}
 use Rattle.std.proofs.lemmas.Option.{same_Some, none-some}
 use Rattle.dd_tokens.specs.declared.token.Token.{Token}
 use Rattle.dd_tokens.specs.declared.fault.LineFault.{LineFault}
@@ -19,7 +19,7 @@ use Rattle.dd_script.specs.FormSteps.{form_by}
 use Rattle.dd_script.specs.Spelling.{spelling}
 use Rattle.dd_script.specs.Numbers.{numbers_fit}
 use Rattle.dd_script.specs.PieceFaults.{IsPartFault}
-use Rattle.dd_script.specs.Reads.{meaning, SayStatement, Say, Reads, BeginUnknown, HaveBadForm, IsFormFault, IsStatementFault}
+use Rattle.dd_script.specs.Reads.{meaning, Say, Reads, BeginUnknown, HaveBadForm, IsFormFault, IsStatementFault}
 use Rattle.dd_script.proofs.KeywordsLemmas.{one_keyword}
 use Rattle.dd_script.proofs.FrontLemmas.{word_takes}
 use Rattle.dd_script.proofs.FormStepsLemmas.{form_takes, read_again}

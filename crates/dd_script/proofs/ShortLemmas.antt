@@ -1,5 +1,5 @@
 -- What a line says on the machine is short.
-use Rattle.std.proofs.Common.{◌≡◌, ℕ, ◌^◌, ◌≤◌, true, nat_le, List, length, ℤ, pos, negsuc, Option, None, Some, subst, arith, unsigned_abs}
+use Rattle.std.proofs.Common.{◌≡◌, ℕ, ◌≤◌, true, nat_le, List, length, ℤ, pos, negsuc, Option, None, Some, subst, arith, unsigned_abs}
 use Rattle.std.specs.List.{All}
 use Rattle.std.proofs.lemmas.Bool.{and_parts, leb-true}
 use Rattle.std.proofs.lemmas.List.Elements.{All-map, All-weaker}
@@ -40,8 +40,8 @@ short_lexemes line tokens cut = All-map IsShortLexeme (lexeme_of line) tokens
 
 limit_is : (z : ℤ) → is_limit z ≡ true → (1 ≤ unsigned_abs z) × (unsigned_abs z ≤ space_limit)
 limit_is (pos n) within =
-    let parts : (nat_le 1 n ≡ true) × (nat_le n (2 ^ 40) ≡ true) = and_parts (nat_le 1 n) (nat_le n (2 ^ 40)) within in
-    (leb-true 1 n parts.0, leb-true n (2 ^ 40) parts.1)
+    let parts : (nat_le 1 n ≡ true) × (nat_le n space_limit ≡ true) = and_parts (nat_le 1 n) (nat_le n space_limit) within in
+    (leb-true 1 n parts.0, leb-true n space_limit parts.1)
 limit_is (negsuc n) within = absurd (cc)
 
 said : (a x : Statement) → IsShort a → Some a ≡ Some x → IsShort x
@@ -65,7 +65,7 @@ short_form written.Region x short fits means = said Region x tt means
 short_form (written.Task kernel scalar arguments) x short fits means = task_said kernel scalar _ x means
 short_form written.End x short fits means = said End x tt means
 short_form (written.Print name) x short fits means = said (Print name) x tt means
-short_form (written.Sum name) x short fits means = said (Sum name) x tt means
+short_form (written.Sum name) x short fits means = said (Sum name) x (short 1 (mark 0) (omega arith)) means
 short_form written.Moved x short fits means = said Moved x tt means
 
 pub short_reading : (line : List ℕ) (x : Statement) → Reads line (Some x) → IsShort x

@@ -1,8 +1,8 @@
 -- Worked lines of the whole language, computed from the definitions alone.
-use Rattle.std.proofs.Common.{◌≡◌, ℕ, pos, [], ◌∷◌, Some, None, refl, codes, lit<}
+use Rattle.std.proofs.Common.{ℕ, pos, [], ◌∷◌, Some, None, refl, codes}
 use Rattle.dd_tokens.specs.declared.token.Token.{Token}
 use Rattle.dd_tokens.specs.declared.token.TokenKind.TheVariants.{Word, Number, Mark}
-use Rattle.dd_kernels.specs.declared.signature.Mode.TheVariants.{Read, Write, Both}
+use Rattle.dd_kernels.specs.declared.signature.Mode.TheVariants.{Read, Write}
 use Rattle.dd_views.specs.declared.range.Range.TheVariants as range
 use Rattle.dd_views.specs.declared.part.Part.TheVariants as part
 use Rattle.dd_script.specs.declared.index.Index.TheVariants as index

@@ -2,7 +2,7 @@
 use Rattle.std.proofs.Common.{◌≡◌, ℕ, ℤ, List, [], ◌∷◌, ◌++◌, Option, Some, None, refl, sym, ap, subst, ◌∙◌, inl, inr}
 use Rattle.std.proofs.lemmas.Option.{same_Some}
 use Rattle.std.proofs.lemmas.List.{append_assoc}
-use Rattle.dd_causes.specs.Steps.{◌>>=◌, either_way}
+use Rattle.dd_causes.specs.Steps.{◌>>=◌}
 use Rattle.dd_causes.proofs.StepsLemmas.{bind_some, which_way}
 use Rattle.dd_tokens.specs.Lexeme.{Lexeme, word, number, mark}
 use Rattle.dd_script.specs.declared.index.Index.{Index}

@@ -1,6 +1,7 @@
 -- The numbers that a line may have.
-use Rattle.std.specs.Prelude.{ℕ, ℤ, pos, negsuc, Bool, true, false, ◌^◌, ◌&&◌, nat_lt, nat_le, Option, None, Some, List}
+use Rattle.std.specs.Prelude.{ℤ, pos, negsuc, Bool, true, false, ◌&&◌, nat_le, Option, None, Some}
 use Rattle.std.specs.List.{list_all}
+use Rattle.dd_blocks.specs.Limits.{space_limit}
 use Rattle.dd_script.specs.declared.index.Index.{Index}
 use Rattle.dd_script.specs.declared.index.Index.TheVariants.{All, One, Run, Steps}
 use Rattle.dd_script.specs.declared.viewed.Viewed.{Viewed}
@@ -13,9 +14,9 @@ use Rattle.dd_script.specs.declared.written.Written.{Written}
 use Rattle.dd_script.specs.declared.written.Written.TheVariants.{Space, Proc, PolicyIs, PlaceIs, Array, Same, Drop, MoveTo, Region, Task, End, Print, Sum, Moved}
 use Rattle.dd_script.specs.Int64.{fits_int64}
 
--- the bytes of a space: 1 to 2^40
+-- the bytes of a space
 abbrev pub is_limit : ℤ → Bool
-is_limit (pos n) = nat_le 1 n && nat_le n (2 ^ 40)
+is_limit (pos n) = nat_le 1 n && nat_le n space_limit
 is_limit (negsuc n) = false
 
 abbrev pub index_fits : Index → Bool

@@ -1,5 +1,5 @@
 -- What a line says: at most one statement.
-use Rattle.std.specs.Prelude.{◌≡◌, ℕ, ℤ, true, false, List, [], ◌∷◌, Option, None, Some, unsigned_abs}
+use Rattle.std.specs.Prelude.{◌≡◌, ℕ, true, false, List, [], ◌∷◌, Option, None, Some, unsigned_abs}
 use Rattle.dd_causes.specs.Steps.{◌>>=◌}
 use Rattle.dd_tokens.specs.declared.token.Token.{Token}
 use Rattle.dd_tokens.specs.declared.fault.LineFault.{LineFault}

@@ -10,7 +10,8 @@ pub fn one_reading()
     ensures { (line : List ℕ) (x y : Option Statement) → Reads line x → Reads line y → x ≡ y }
 {}
 
-/// The names of spaces and processors that a line gives have 64 bytes at most, and the limit of a space is 1 to 2^40.
+/// The names of spaces, processors and sums that a line gives have 64 bytes at most, and the limit of a space is 1 to
+/// 2^40.
 pub fn short_names()
     ensures { (line : List ℕ) (x : Statement) → Reads line (Some x) → IsShort x }
 {}

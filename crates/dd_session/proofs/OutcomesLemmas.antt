@@ -5,10 +5,10 @@ use Rattle.dd_io.specs.Taken.{ReadsToEnd, TakesExactly}
 use Rattle.dd_blocks.specs.declared.plan.Plan.{Plan}
 use Rattle.dd_blocks.specs.Limits.{text_limit}
 use Rattle.dd_check.specs.declared.fault.Fault.{Fault}
-use Rattle.dd_check.specs.Faults.{IsFault, IsPlanOf, IsOnlyFaultOf, IsOnlyPlanOf}
+use Rattle.dd_check.specs.Faults.{IsFault, IsPlanOf, IsOnlyFaultOf, IsOnlyPlanOf, too_long}
 use Rattle.dd_session.specs.declared.status.Status.{Status}
 use Rattle.dd_session.specs.declared.status.Status.TheVariants.{Done, Memory, Words, Script, ReadFault, WriteFault}
-use Rattle.dd_session.specs.Outcomes.{ReadsPlan, ReadsFaulty, WritesAll, WritesFront, IsRefused, EndsWith, too_long}
+use Rattle.dd_session.specs.Outcomes.{ReadsPlan, ReadsFaulty, WritesAll, WritesFront, IsRefused, EndsWith}
 
 -- all that was left is the text that was read
 text_read : (text bytes : List ℕ) (left' : Option (List ℕ)) → ReadsToEnd (Some text) left' bytes → bytes ≡ text

@@ -6,8 +6,7 @@ use Rattle.dd_io.specs.Taken.{ReadsToEnd, TakesExactly}
 use Rattle.dd_blocks.specs.declared.plan.Plan.{Plan}
 use Rattle.dd_blocks.specs.Limits.{text_limit}
 use Rattle.dd_check.specs.declared.fault.Fault.{Fault}
-use Rattle.dd_check.specs.declared.kind.Kind.TheVariants.{TooLong}
-use Rattle.dd_check.specs.Faults.{IsOnlyFaultOf, IsOnlyPlanOf}
+use Rattle.dd_check.specs.Faults.{IsOnlyFaultOf, IsOnlyPlanOf, too_long}
 use Rattle.dd_meaning.specs.Text.{text_of}
 use Rattle.dd_session.specs.declared.status.Status.{Status}
 use Rattle.dd_session.specs.declared.status.Status.TheVariants.{Done, Memory, Words, Script, ReadFault, WriteFault}
@@ -37,10 +36,6 @@ pub record WritesFront (left left' taken taken' : Option (List ℕ)) : Type 0 wh
   pub plan : Plan
   pub read : ReadsPlan left left' plan
   pub written : AppendsFront taken taken' (text_of plan)
-
--- the fault of a text that has more bytes than a script may have
-abbrev pub too_long : Fault
-too_long = record { line = 0; kind = TooLong; a = text_limit; b = 0 }
 
 -- more bytes were there than a script may have, or the text has the fault
 abbrev pub IsRefused : Fault → Option (List ℕ) → Option (List ℕ) → Type 0

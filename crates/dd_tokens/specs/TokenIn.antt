@@ -6,12 +6,12 @@ use Rattle.dd_tokens.specs.declared.token.Token.{Token}
 use Rattle.dd_tokens.specs.declared.token.TokenKind.{TokenKind}
 use Rattle.dd_tokens.specs.declared.token.TokenKind.TheVariants.{Word, Number, Mark}
 use Rattle.dd_tokens.specs.Bytes.{is_letter, is_word_byte, is_mark}
-use Rattle.dd_tokens.specs.Tokens.{begins, sign_len}
+use Rattle.dd_tokens.specs.Tokens.{begins, sign_len, word_limit}
 use Rattle.dd_tokens.specs.Lexeme.{token_bytes}
 
--- the bytes of a token by its kind: a letter and at most 63 letters and digits more, digits behind an optional `-`, or one mark
+-- the bytes of a token by its kind: a letter and letters and digits behind it, not too many, digits behind an optional `-`, or one mark
 abbrev pub AreBytesOf : TokenKind → List ℕ → Type 0
-AreBytesOf Word bs = (begins is_letter bs ≡ true) × AllPass is_word_byte bs × (length bs ≤ 64)
+AreBytesOf Word bs = (begins is_letter bs ≡ true) × AllPass is_word_byte bs × (length bs ≤ word_limit)
 AreBytesOf Number bs = IsNumeral 10 (drop (sign_len bs) bs)
 AreBytesOf Mark bs = (begins is_mark bs ≡ true) × (length bs ≡ 1)
 

@@ -13,11 +13,15 @@ abbrev pub begins : (ℕ → Bool) → List ℕ → Bool
 begins test [] = false
 begins test (b ∷ bs) = test b
 
--- a word at the front: a letter, and all letters and digits after it, 64 bytes at most in all
+-- the most bytes of a word
+abbrev pub word_limit : ℕ
+word_limit = 64
+
+-- a word at the front: a letter, and all letters and digits after it
 abbrev pub word_len : List ℕ → Option ℕ
 word_len bs =
     let len = prefix_len is_word_byte bs in
-    if begins is_letter bs && nat_le len 64 then Some len else None
+    if begins is_letter bs && nat_le len word_limit then Some len else None
 
 -- a `-` right before a digit belongs to the number
 abbrev pub sign_len : List ℕ → ℕ

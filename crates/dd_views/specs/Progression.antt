@@ -19,7 +19,7 @@ HasPassed b x = ((pos 0 <ℤ b.step) × (b.last <ℤ x)) ⊎ ((b.step <ℤ pos 0
 abbrev pub number_at : Bounds → ℕ → ℤ
 number_at b i = b.first +ℤ pos i *ℤ b.step
 
--- the range lists n numbers: the n first have not passed the last one, and the next has. A step of 0 lists nothing
+-- the range lists n numbers: the n first have not passed the last one, and the next has. For a step of 0 there is no such n
 pub record ListsCount (b : Bounds) (n : ℕ) : Type 0 where
   pub listed : (i : ℕ) → i < n → ¬ HasPassed b (number_at b i)
   pub ended : HasPassed b (number_at b n)

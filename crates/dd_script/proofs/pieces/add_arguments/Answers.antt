@@ -1,4 +1,3 @@
-use Rattle.std.proofs.Common.{rules}
 use Rattle.dd_script.proofs.GatheredLemmas.{adds_none, adds_more, item_fault, all_at}
 use Rattle.dd_script.proofs.pieces.add_arguments.Goals as goal
 
