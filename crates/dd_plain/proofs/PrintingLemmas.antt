@@ -42,7 +42,7 @@ numbers_more grid values i n front line e =
     ∙ ap (λ l. front ++ l) (sym (more ∙ ap (λ l. join_with_byte 32 (map number (range_with_len 0 n)) ++ l) first))
 
 -- the next of the numbers that are left
-pub next_left : (f : ℕ → List ℕ) (i n : ℕ) → i < n → flat_map f (range_with_len i (n - i)) ≡ f i ++ flat_map f (range_with_len (i + 1) (n - (i + 1)))
+pub next_left : {X : Type 0} (f : ℕ → List X) (i n : ℕ) → i < n → flat_map f (range_with_len i (n - i)) ≡ f i ++ flat_map f (range_with_len (i + 1) (n - (i + 1)))
 next_left f i n l =
     let e : n - i ≡ suc (n - (i + 1)) = omega arith in
     ap (λ k. flat_map f (range_with_len i k)) e

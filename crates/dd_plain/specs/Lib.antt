@@ -7,3 +7,4 @@ pub mod MovesHomes
 pub mod MovesVisits
 pub mod Rows
 pub mod MovesRest
+pub mod Bands

@@ -105,7 +105,7 @@ fn run_row<O: Sink>(
     if let What::Region(region) = what {
         return Ok(run_region(alloc, plan, *region, run)?);
     }
-    write_row(plan, &run.world, run.moved, what, &mut run.line, out)
+    write_row(alloc, plan, &run.world, run.moved, what, &mut run.line, out)
 }
 
 /// Runs the tasks of the region that comes next, and counts what it moves.
@@ -123,6 +123,7 @@ fn run_region(alloc: Global, plan: &Plan, region: u32, run: &mut Run) -> Result<
 
 /// Writes what a row prints. `line` is only room for a line of it.
 fn write_row<O: Sink>(
+    alloc: Global,
     plan: &Plan,
     world: &[Vec<i64>],
     moved: u64,
@@ -142,7 +143,7 @@ fn write_row<O: Sink>(
         What::Print(array) => {
             let place = *array as usize - 1;
             let grid = plan.arrays.as_slice()[place].grid;
-            print_array(line, grid, &world[place], out)
+            print_array(alloc, line, grid, &world[place], out)
         }
         What::Sum { array, name } => {
             let place = *array as usize - 1;

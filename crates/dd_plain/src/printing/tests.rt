@@ -35,7 +35,7 @@ fn prints(rt: HostRuntime) -> Result<(), Fail> {
         let mut out = MemSink::new(rt.alloc(), 64, 3, Vec::new(rt.alloc()))?;
         let mut line = Vec::new(rt.alloc());
         assert_eq!(rt;
-            print_array(&mut line, grid, values, &mut out),
+            print_array(rt.alloc(), &mut line, grid, values, &mut out),
             Ok(()),
             "{name}"
         );
@@ -46,9 +46,15 @@ fn prints(rt: HostRuntime) -> Result<(), Fail> {
 
 #[test]
 fn a_sink_fails_at_the_second_row(rt: HostRuntime) -> Result<(), Fail> {
-    let mut out = failing_sink(rt.alloc())?;
+    let mut out = failing_sink(rt.alloc(), 4)?;
     let mut line = Vec::new(rt.alloc());
-    let printed = print_array(&mut line, grid_of(2, 2), &[1, 2, 3, 4], &mut out);
+    let printed = print_array(
+        rt.alloc(),
+        &mut line,
+        grid_of(2, 2),
+        &[1, 2, 3, 4],
+        &mut out,
+    );
     assert_eq!(rt; printed, Err(PlainFault::WriteFault));
     assert_eq!(rt; out.bytes(), b"1 3\n".as_slice());
     Ok(())
@@ -84,7 +90,7 @@ fn sums(rt: HostRuntime) -> Result<(), Fail> {
 
 #[test]
 fn moved_lines(rt: HostRuntime) -> Result<(), Fail> {
-    let mut out = failing_sink(rt.alloc())?;
+    let mut out = failing_sink(rt.alloc(), 64)?;
     let mut line = Vec::new(rt.alloc());
     assert_eq!(rt; print_moved(&mut line, 0, &mut out), Ok(()));
     assert_eq!(rt;
@@ -114,7 +120,9 @@ fn grid_of(rows: u32, cols: u32) -> Grid
     }
 }
 
-/// A sink whose second call fails.
-fn failing_sink(alloc: Global) -> Result<MemSink, AllocError> {
-    MemSink::new(alloc, 64, 64, Vec::from_slice(alloc, &[2])?)
+/// A sink that takes so many bytes a call, and whose second call fails.
+fn failing_sink(alloc: Global, taken: usize) -> Result<MemSink, AllocError>
+    requires { 1 ≤ taken }
+{
+    MemSink::new(alloc, 64, taken, Vec::from_slice(alloc, &[2])?)
 }

@@ -1,7 +1,7 @@
 use Rattle.std.proofs.Common.{◌≡◌, ◌++◌}
 use Rattle.std.specs.List.{join_with_byte}
 use Rattle.dd_plain.proofs.PrintingLemmas.{numbers_to}
-use Rattle.dd_plain.proofs.printing.push_row.Given as goal
+use Rattle.dd_plain.proofs.printing.row.push_row.Given as goal
 
 abbrev pub invariant-loop-j : goal.invariant-loop-j
 invariant-loop-j l =
