@@ -3,9 +3,10 @@
 //!
 //! A kernel works on the buffers of its accesses, which the caller has gathered and will store back, as
 //! lists of Int64 in column-major order. [`kernel_named`] reads its name, [`signature_of`] and
-//! [`shapes_fit`] say what it takes. [`plain`] runs one on [`Args`] and changes the buffers in place. None
-//! of these takes memory. The kernels on packed triangles stand in the table, and are run elsewhere; [`addk`],
-//! [`axpy`] and [`combine`] are there for them.
+//! [`shapes_fit`] say what it takes. [`plain`] runs one on [`Args`] and changes the buffers in place;
+//! [`plain_on_one`], [`plain_on_two`] and [`plain_on_three`] run one on slices, which may be parts of larger
+//! lists. None of these takes memory. The kernels on packed triangles stand in the table, and are run elsewhere;
+//! [`addk`], [`axpy`] and [`combine`] are there for them.
 //!
 //! What a kernel computes is one equation of `specs/Table.antt`; the names stand in `specs/Names.antt`, the
 //! accesses in `specs/Signatures.antt`, the shapes in `specs/Shapes.antt`. A list that a kernel only writes
@@ -40,7 +41,10 @@ pub use element_wise::{addk, axpy};
 pub use in_place::combine;
 pub use kernel::{Kernel, is_plain};
 pub use name::kernel_named;
+pub use one_list::plain_on_one;
 pub use run::plain;
 pub use shape::Shape;
 pub use shape_rule::shapes_fit;
 pub use signature::{Mode, Modes, Signature, signature_of};
+pub use three_lists::plain_on_three;
+pub use two_lists::plain_on_two;
