@@ -7,13 +7,16 @@
 //!
 //! A kernel works on the buffers of its accesses, which the caller has gathered and will store back. [`apply`] leaves
 //! in each the list that the kernel table, `dd_kernels/specs/Table.antt`, says. It takes no memory, and its cost is
-//! that of the kernel.
+//! that of the kernel. [`apply_to_one`], [`apply_to_two`] and [`apply_to_three`] run a kernel on slices, which may be parts
+//! of larger lists.
 //!
 //! Inside, the kernels on packed triangles go to `dd_packed`, the others to `dd_kernels`.
 #![tactic(auto)]
 
 mod run;
+mod slices;
 #[cfg(test)]
 mod tests;
 
 pub use run::apply;
+pub use slices::{apply_to_one, apply_to_three, apply_to_two};

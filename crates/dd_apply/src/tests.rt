@@ -1,8 +1,8 @@
-//! Each kernel once through `apply`, at lists whose results come from another program.
+//! Each kernel once through `apply` and once on slices, at lists whose results come from another program.
 ghost use Rattle.std.specs.Prelude.{◌≡◌, ◌↔◌, ℕ, List, [], ◌∷◌, length, IfOk, IsTrue};
 ghost use Rattle.dd_kernels.specs.Shapes.{ShapesFit, size_of};
 
-use crate::apply;
+use crate::{apply, apply_to_one, apply_to_three, apply_to_two};
 use dd_kernels::{Args, Kernel, Shape, shapes_fit};
 use std::alloc::{AllocError, Global};
 use std::process::Abort;
@@ -276,6 +276,9 @@ fn check_one(rt: &impl Abort, alloc: Global, row: &OneList) -> Result<(), AllocE
     assert!(rt; fills(shape, x), "{kernel:?}");
     let args = after_one(alloc, kernel, scalar, shape, x)?;
     assert_eq!(rt; args.bufs[0].as_slice(), want, "{kernel:?}");
+    let mut list = x.to_vec(alloc)?;
+    apply_to_one(kernel, scalar, shape, &mut list);
+    assert_eq!(rt; list.as_slice(), want, "{kernel:?}");
     Ok(())
 }
 
@@ -289,6 +292,11 @@ fn check_two(rt: &impl Abort, alloc: Global, row: &TwoLists) -> Result<(), Alloc
     let args = after_two(alloc, kernel, scalar, (first, second), x, y)?;
     assert_eq!(rt; args.bufs[0].as_slice(), want.0, "{kernel:?}");
     assert_eq!(rt; args.bufs[1].as_slice(), want.1, "{kernel:?}");
+    let mut one = x.to_vec(alloc)?;
+    let mut other = y.to_vec(alloc)?;
+    apply_to_two(kernel, scalar, (first, second), &mut one, &mut other);
+    assert_eq!(rt; one.as_slice(), want.0, "{kernel:?}");
+    assert_eq!(rt; other.as_slice(), want.1, "{kernel:?}");
     Ok(())
 }
 
@@ -304,6 +312,9 @@ fn check_three(rt: &impl Abort, alloc: Global, row: &ThreeLists) -> Result<(), A
     assert_eq!(rt; args.bufs[0].as_slice(), want, "{kernel:?}");
     assert_eq!(rt; args.bufs[1].as_slice(), y, "{kernel:?}");
     assert_eq!(rt; args.bufs[2].as_slice(), z, "{kernel:?}");
+    let mut list = x.to_vec(alloc)?;
+    apply_to_three(kernel, 0, (first, second, third), &mut list, y, z);
+    assert_eq!(rt; list.as_slice(), want, "{kernel:?}");
     Ok(())
 }
 

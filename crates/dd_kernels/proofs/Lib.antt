@@ -1,3 +1,4 @@
+pub mod AgreementLemmas
 pub mod BlocksLemmas
 pub mod ListsLemmas
 pub mod MatricesLemmas
@@ -6,5 +7,6 @@ pub mod NumbersLemmas
 pub mod RisingLemmas
 pub mod RotationLemmas
 pub mod ShapesLemmas
+pub mod SortingLemmas
 pub mod StencilLemmas
 pub mod TableExamples

@@ -63,7 +63,7 @@ by_tests false true = refl
 by_tests false false = refl
 
 -- the order of Int64 by its test
-lt_is : (x y : ℤ) → is_lt (int_cmp x y) ≡ int_lt x y
+pub lt_is : (x y : ℤ) → is_lt (int_cmp x y) ≡ int_lt x y
 lt_is x y = by_tests (int_lt x y) (int_lt y x)
 
 pub rising_is : (xs ys : List ℤ) → IsPermutation xs ys → IsSorted int_cmp ys → ys ≡ rising xs

@@ -1,3 +1,4 @@
+pub mod Agreement
 pub mod Lists
 pub mod Matrices
 pub mod Names

@@ -49,7 +49,7 @@ abbrev pub insert_rising : ℤ → List ℤ → List ℤ
 insert_rising x [] = x ∷ []
 insert_rising x (y ∷ ys) = if int_lt y x then y ∷ insert_rising x ys else x ∷ y ∷ ys
 
--- the elements in rising order
+-- the elements in rising order: the one sorted permutation (the law `rising_permutation`)
 abbrev pub rising : List ℤ → List ℤ
 rising [] = []
 rising (x ∷ xs) = insert_rising x (rising xs)

@@ -3,13 +3,15 @@
 //!
 //! A kernel works on the buffers of its accesses, which the caller has gathered and will store back, as
 //! lists of Int64 in column-major order. [`kernel_named`] reads its name, [`signature_of`] and
-//! [`shapes_fit`] say what it takes. [`plain`] runs one on [`Args`] and changes the buffers in place. None
-//! of these takes memory. The kernels on packed triangles stand in the table, and are run elsewhere; [`addk`],
-//! [`axpy`] and [`combine`] are there for them.
+//! [`shapes_fit`] say what it takes. [`plain`] runs one on [`Args`] and changes the buffers in place;
+//! [`plain_on_one`], [`plain_on_two`] and [`plain_on_three`] run one on slices, which may be parts of larger
+//! lists. None of these takes memory. The kernels on packed triangles stand in the table, and are run elsewhere;
+//! [`addk`], [`axpy`] and [`combine`] are there for them.
 //!
 //! What a kernel computes is one equation of `specs/Table.antt`; the names stand in `specs/Names.antt`, the
-//! accesses in `specs/Signatures.antt`, the shapes in `specs/Shapes.antt`. A list that a kernel only writes
-//! counts for nothing before it.
+//! accesses in `specs/Signatures.antt`, the shapes in `specs/Shapes.antt`. [`laws`] has what holds of them: a
+//! list that a kernel only writes counts for nothing before it, one that it only reads stays, and the rising
+//! order is the one sorted permutation.
 //!
 //! Inside, `run` goes by the number of accesses and lends their buffers as slices, `one_list`, `two_lists`
 //! and `three_lists` go by the kernel, and the other modules have the work itself: `element_wise` place by
@@ -20,6 +22,7 @@ mod args;
 mod element_wise;
 mod in_place;
 mod kernel;
+pub mod laws;
 mod matrix;
 mod name;
 mod one_list;
@@ -40,7 +43,10 @@ pub use element_wise::{addk, axpy};
 pub use in_place::combine;
 pub use kernel::{Kernel, is_plain};
 pub use name::kernel_named;
+pub use one_list::plain_on_one;
 pub use run::plain;
 pub use shape::Shape;
 pub use shape_rule::shapes_fit;
 pub use signature::{Mode, Modes, Signature, signature_of};
+pub use three_lists::plain_on_three;
+pub use two_lists::plain_on_two;

@@ -7,8 +7,8 @@ use crate::kernel::Kernel;
 use crate::ordered::{rev, rot, scan, sort};
 use crate::shape::Shape;
 
-/// Runs a kernel of one access on its list.
-pub fn run_on_one(k: Kernel, scalar: i64, shape: Shape, x: &mut [i64])
+/// Runs a kernel of one access on its list, wherever that stands. It takes no memory.
+pub fn plain_on_one(k: Kernel, scalar: i64, shape: Shape, x: &mut [i64])
     requires plain { IsPlain k }
     requires fit { ShapesFit k (shape ∷ []) }
     requires filled { length x.old ≡ size_of shape }

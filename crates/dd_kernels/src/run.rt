@@ -4,10 +4,10 @@ ghost use Rattle.dd_kernels.specs.Table.{results, IsPlain};
 
 use crate::args::Args;
 use crate::kernel::Kernel;
-use crate::one_list::run_on_one;
+use crate::one_list::plain_on_one;
 use crate::shape::Shape;
-use crate::three_lists::run_on_three;
-use crate::two_lists::run_on_two;
+use crate::three_lists::plain_on_three;
+use crate::two_lists::plain_on_two;
 
 /// Runs a kernel on owned buffers. It takes no memory.
 pub fn plain(k: Kernel, scalar: i64, args: &mut Args)
@@ -35,7 +35,7 @@ fn lend_one(k: Kernel, scalar: i64, shape: Shape, bufs: &mut [Vec<i64>])
     ensures results { map (λ b. b.items) bufs.new ≡ results k scalar (shape ∷ []) (map (λ b. b.items) bufs.old) }
     ensures filled { HaveShapes (shape ∷ []) (map (λ b. b.items) bufs.new) }
 {
-    run_on_one(k, scalar, shape, &mut bufs[0]);
+    plain_on_one(k, scalar, shape, &mut bufs[0]);
 }
 
 /// Lends both buffers to a kernel of two accesses.
@@ -48,7 +48,7 @@ fn lend_two(k: Kernel, scalar: i64, shapes: (Shape, Shape), bufs: &mut [Vec<i64>
     ensures filled { HaveShapes (shapes.0 ∷ shapes.1 ∷ []) (map (λ b. b.items) bufs.new) }
 {
     let (first, rest) = bufs.split_at_mut(1);
-    run_on_two(k, scalar, shapes, &mut first[0], &mut rest[0]);
+    plain_on_two(k, scalar, shapes, &mut first[0], &mut rest[0]);
 }
 
 /// Lends the three buffers to a kernel of three accesses.
@@ -62,5 +62,5 @@ fn lend_three(k: Kernel, scalar: i64, shapes: (Shape, Shape, Shape), bufs: &mut 
 {
     let (first, rest) = bufs.split_at_mut(1);
     let (second, third) = rest.split_at_mut(1);
-    run_on_three(k, scalar, shapes, &mut first[0], &second[0], &third[0]);
+    plain_on_three(k, scalar, shapes, &mut first[0], &second[0], &third[0]);
 }

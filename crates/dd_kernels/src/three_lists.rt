@@ -7,8 +7,8 @@ use crate::matrix::{gemm, gemv};
 use crate::shape::Shape;
 use crate::total::dot;
 
-/// Runs a kernel of three accesses on their lists.
-pub fn run_on_three(
+/// Runs a kernel of three accesses on their lists, wherever those stand: all write only the first. It takes no memory.
+pub fn plain_on_three(
     k: Kernel,
     scalar: i64,
     shapes: (Shape, Shape, Shape),

@@ -9,8 +9,8 @@ use crate::shape::Shape;
 use crate::stencil::stencil5;
 use crate::total::sum;
 
-/// Runs a kernel of two accesses on their lists.
-pub fn run_on_two(k: Kernel, scalar: i64, shapes: (Shape, Shape), x: &mut [i64], y: &mut [i64])
+/// Runs a kernel of two accesses on their lists, wherever those stand. It takes no memory.
+pub fn plain_on_two(k: Kernel, scalar: i64, shapes: (Shape, Shape), x: &mut [i64], y: &mut [i64])
     requires plain { IsPlain k }
     requires fit { ShapesFit k (shapes.0 ∷ shapes.1 ∷ []) }
     requires first { length x.old ≡ size_of shapes.0 }

@@ -11,7 +11,8 @@
 //! each kernel makes of its lists is the equation of the kernel table, `dd_kernels/specs/Table.antt`, with the
 //! pairs of row and column of a triangle in `Packed.antt` beside it.
 //!
-//! [`packed`] takes no memory and writes where the lists stand. `trmv`, `trsv_unit` and `mirror` go over the
+//! [`packed`] takes no memory and writes where the lists stand; [`packed_on_two`] is the same on slices, which may be
+//! parts of larger lists. `trmv`, `trsv_unit` and `mirror` go over the
 //! triangle once, `trsm_unit` once for each column of X, `syrk_packed` once for each column of A. The inner loops
 //! run over slices of stride one, except in `mirror`, which reads with a step.
 //!
@@ -27,4 +28,4 @@ mod square;
 #[cfg(test)]
 mod tests;
 
-pub use run::packed;
+pub use run::{packed, packed_on_two};

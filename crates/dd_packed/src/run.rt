@@ -35,11 +35,11 @@ fn lend_two(k: Kernel, shapes: (Shape, Shape), bufs: &mut [Vec<i64>])
     ensures filled { HaveShapes (shapes.0 ∷ shapes.1 ∷ []) (map (λ b. b.items) bufs.new) }
 {
     let (first, rest) = bufs.split_at_mut(1);
-    run_on_two(k, shapes, &mut first[0], &mut rest[0]);
+    packed_on_two(k, shapes, &mut first[0], &mut rest[0]);
 }
 
-/// Runs a kernel on its two lists.
-fn run_on_two(k: Kernel, shapes: (Shape, Shape), x: &mut [i64], y: &mut [i64])
+/// Runs a kernel on packed triangles on its two lists, wherever those stand. It takes no memory.
+pub fn packed_on_two(k: Kernel, shapes: (Shape, Shape), x: &mut [i64], y: &mut [i64])
     requires packed { ¬ (IsPlain k) }
     requires fit { ShapesFit k (shapes.0 ∷ shapes.1 ∷ []) }
     requires first { length x.old ≡ size_of shapes.0 }
