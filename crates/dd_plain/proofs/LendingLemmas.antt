@@ -1,15 +1,16 @@
 -- Arrays that are lent and come back are as if they had been stored.
-use Rattle.std.proofs.Common.{◌≡◌, ◌≢◌, ℕ, ◌-◌, ◌≤◌, ℤ, Bool, true, false, List, [], ◌∷◌, length, set, refl, sym, ap, ◌∙◌, arith, ⊎_elim}
-use Rattle.std.specs.List.{AllByRecursion, range_with_len}
+use Rattle.std.proofs.Common.{◌≡◌, ◌≢◌, ℕ, ◌-◌, ◌≤◌, ℤ, pos, Bool, true, false, List, [], ◌∷◌, length, map, set, refl, sym, ap, ◌∙◌, arith, ⊎_elim}
+use Rattle.std.specs.List.{AllByRecursion}
 use Rattle.std.proofs.lemmas.Bool.{cases_Bool}
-use Rattle.std.proofs.lemmas.List.{set-set, length-set}
+use Rattle.std.proofs.lemmas.List.{set-set, set-get_or, length-set}
+use Rattle.dd_kernels.specs.Lists.{element}
 use Rattle.dd_views.specs.IndexList.{index_list}
 use Rattle.dd_blocks.specs.declared.access_row.AccessRow.{AccessRow}
 use Rattle.dd_blocks.specs.Conflicts.{writes}
-use Rattle.dd_meaning.specs.Steps.{put_at, stored, stored_one}
+use Rattle.dd_meaning.specs.Steps.{gathered, put_at, stored, stored_one}
 use Rattle.dd_meaning.specs.Worlds.{World, values_of}
 use Rattle.dd_plain.specs.Lending.{without, without_all, back_in, all_back_in}
-use Rattle.dd_plain.proofs.WorldLemmas.{set_apart, values_beside, same_written, put_whole}
+use Rattle.dd_plain.proofs.WorldLemmas.{set_apart, values_beside, same_written}
 
 -- an access that is lent has its array for itself
 pub record AreApart (lent : AccessRow → Bool) (a b : AccessRow) : Type 0 where
@@ -24,22 +25,28 @@ AreAllApart lent (a ∷ more) = AllByRecursion (AreApart lent a) more × AreAllA
 abbrev pub IsOf : World → AccessRow → Type 0
 IsOf world a = (1 ≤ a.view.array) × (a.view.array ≤ length world)
 
--- what comes back to an access that is lent: all of its array, as it was where it is only read
-pub record ComesBack (world : World) (a : AccessRow) (values : List ℤ) : Type 0 where
-  pub whole : index_list a.view ≡ range_with_len 0 (length (values_of world a.view.array))
-  pub long : length values ≡ length (values_of world a.view.array)
-  pub same : writes a.mode ≡ false → values ≡ values_of world a.view.array
+-- what comes back to an access: its array with what was made in its places where it is lent, or else what was made
+pub record ComesBack (lent : AccessRow → Bool) (world : World) (a : AccessRow) (full made : List ℤ) : Type 0 where
+  pub whole : lent a ≡ true → full ≡ put_at (index_list a.view) made (values_of world a.view.array)
+  pub same : lent a ≡ true → writes a.mode ≡ false → made ≡ gathered world a
+  pub part : lent a ≡ false → full ≡ made
 
-abbrev pub AllComeBack : (AccessRow → Bool) → World → List AccessRow → List (List ℤ) → Type 0
-AllComeBack lent world [] lists = Unit {0}
-AllComeBack lent world (a ∷ more) [] = Unit {0}
-AllComeBack lent world (a ∷ more) (values ∷ lists) = (lent a ≡ true → ComesBack world a values) × AllComeBack lent world more lists
+abbrev pub AllComeBack : (AccessRow → Bool) → World → List AccessRow → List (List ℤ) → List (List ℤ) → Type 0
+AllComeBack lent world [] fulls lists = Unit {0}
+AllComeBack lent world (a ∷ more) [] lists = ⊥
+AllComeBack lent world (a ∷ more) (full ∷ fulls) [] = ⊥
+AllComeBack lent world (a ∷ more) (full ∷ fulls) (made ∷ lists) = ComesBack lent world a full made × AllComeBack lent world more fulls lists
 
--- what is stored in a world that has the access's array is the array as a whole
-back_is_stored : (world : World) (a : AccessRow) (values : List ℤ) → IsOf world a → ComesBack world a values → set world (a.view.array - 1) values ≡ stored_one world a values
-back_is_stored world a values is back = ⊎_elim
-    (λ (w : writes a.mode ≡ true). rw (w, back.whole) (ap (set world (a.view.array - 1)) (sym (put_whole (values_of world a.view.array) values back.long))))
-    (λ (r : writes a.mode ≡ false). rw r (same_written world a.view.array values is.0 (back.same r)))
+-- what stood at some places is put there
+pub put_same : (ps : List ℕ) (values : List ℤ) → put_at ps (map (element values) ps) values ≡ values
+put_same [] values = refl
+put_same (p ∷ ps) values = ap (put_at ps (map (element values) ps)) (set-get_or values p (pos 0)) ∙ put_same ps values
+
+-- what is stored in a world that has the access's array is the array that was lent
+back_is_stored : (lent : AccessRow → Bool) (world : World) (a : AccessRow) (full made : List ℤ) → IsOf world a → lent a ≡ true → ComesBack lent world a full made → set world (a.view.array - 1) full ≡ stored_one world a made
+back_is_stored lent world a full made is l back = ⊎_elim
+    (λ (w : writes a.mode ≡ true). rw w (ap (set world (a.view.array - 1)) (back.whole l)))
+    (λ (r : writes a.mode ≡ false). rw r (same_written world a.view.array full is.0 (back.whole l ∙ ap (λ new. put_at (index_list a.view) new (values_of world a.view.array)) (back.same l r) ∙ put_same (index_list a.view) (values_of world a.view.array))))
     (cases_Bool (writes a.mode))
 
 -- other arrays stay
@@ -102,16 +109,19 @@ pub not_first : (lent : AccessRow → Bool) (a : AccessRow) (more : List AccessR
 not_first lent a [] h = tt
 not_first lent a (b ∷ more) h = (h.0.second, not_first lent a more h.1)
 
-pub come_after : (lent : AccessRow → Bool) (old new : World) (a : AccessRow) (more : List AccessRow) (lists : List (List ℤ)) → AllByRecursion (AreApart lent a) more → ((n : ℕ) → a.view.array ≢ n → values_of new n ≡ values_of old n) → AllComeBack lent old more lists → AllComeBack lent new more lists
-come_after lent old new a [] lists apart same h = tt
-come_after lent old new a (b ∷ more) [] apart same h = tt
-come_after lent old new a (b ∷ more) (values ∷ lists) apart same h = (
-  (λ l.
-      let kept = same b.view.array (apart.0.second l) in
-      let back = h.0 l in
-      record { whole = rw kept back.whole; long = rw kept back.long; same = λ r. rw kept (back.same r) }),
-  come_after lent old new a more lists apart.1 same h.1,
-)
+pub come_after : (lent : AccessRow → Bool) (old new : World) (a : AccessRow) (more : List AccessRow) (fulls lists : List (List ℤ)) → AllByRecursion (AreApart lent a) more → ((n : ℕ) → a.view.array ≢ n → values_of new n ≡ values_of old n) → AllComeBack lent old more fulls lists → AllComeBack lent new more fulls lists
+come_after lent old new a [] fulls lists apart same h = tt
+come_after lent old new a (b ∷ more) [] lists apart same h = absurd h
+come_after lent old new a (b ∷ more) (full ∷ fulls) [] apart same h = absurd h
+come_after lent old new a (b ∷ more) (full ∷ fulls) (made ∷ lists) apart same h =
+    let back = h.0 in (
+      record {
+        whole = λ l. rw (same b.view.array (apart.0.second l)) (back.whole l);
+        same = λ l r. rw (same b.view.array (apart.0.second l)) (back.same l r);
+        part = back.part;
+      },
+      come_after lent old new a more fulls lists apart.1 same h.1,
+    )
 
 -- an access that is not lent is stored before the others leave, or after
 stored_without : (lent : AccessRow → Bool) (world : World) (a : AccessRow) (values : List ℤ) (more : List AccessRow) → AreOf world (a ∷ more) → AreNotOf lent a.view.array more → stored_one (without_all lent world more) a values ≡ without_all lent (stored_one world a values) more
@@ -122,25 +132,26 @@ stored_without lent world a values more is none = ⊎_elim
     (λ (r : writes a.mode ≡ false). rw r refl)
     (cases_Bool (writes a.mode))
 
--- the values of the first access come back to a world without the arrays that are lent
-pub one_back : (lent : AccessRow → Bool) (world : World) (a : AccessRow) (values : List ℤ) (more : List AccessRow) → AreOf world (a ∷ more) → AllByRecursion (AreApart lent a) more → (lent a ≡ true → ComesBack world a values) → back_in lent (without_all lent world (a ∷ more)) a values ≡ without_all lent (stored_one world a values) more
-one_back lent world a values more is apart back =
+-- what was held of the first access comes back to a world without the arrays that are lent
+pub one_back : (lent : AccessRow → Bool) (world : World) (a : AccessRow) (full made : List ℤ) (more : List AccessRow) → AreOf world (a ∷ more) → AllByRecursion (AreApart lent a) more → ComesBack lent world a full made → back_in lent (without_all lent world (a ∷ more)) a full ≡ without_all lent (stored_one world a made) more
+one_back lent world a full made more is apart back =
     let none = not_first lent a more apart in
     let place : ℕ = a.view.array - 1 in
     ⊎_elim
     (λ (l : lent a ≡ true). rw l (
-    set_without_all lent (set world place []) more a.view.array values is.0.0 (are_of world (set world place []) more (length-set world place []) is.1) none
-    ∙ ap (λ (w : World). without_all lent w more) (set-set world place [] values ∙ back_is_stored world a values is.0 (back l))))
-    (λ (k : lent a ≡ false). rw k (stored_without lent world a values more is none))
+    set_without_all lent (set world place []) more a.view.array full is.0.0 (are_of world (set world place []) more (length-set world place []) is.1) none
+    ∙ ap (λ (w : World). without_all lent w more) (set-set world place [] full ∙ back_is_stored lent world a full made is.0 l back)))
+    (λ (k : lent a ≡ false). rw (k, back.part k) (stored_without lent world a made more is none))
     (cases_Bool (lent a))
 
--- all values come back to it: they were stored in the world with them
-pub all_back : (lent : AccessRow → Bool) (world : World) (accesses : List AccessRow) (lists : List (List ℤ)) → AreOf world accesses → AreAllApart lent accesses → AllComeBack lent world accesses lists → length lists ≡ length accesses → all_back_in lent (without_all lent world accesses) accesses lists ≡ stored world accesses lists
-all_back lent world [] lists is apart back long = refl
-all_back lent world (a ∷ more) [] is apart back long = absurd (omega (arith, long))
-all_back lent world (a ∷ more) (values ∷ lists) is apart back long =
-    let after : World = stored_one world a values in
-    let here = one_back lent world a values more is apart.0 back.0 in
-    let later = are_of world after more (length_stored world a values) is.1 in
-    let kept = come_after lent world after a more lists apart.0 (λ n other. stored_beside world a values n is.0 other) back.1 in
-    ap (λ (w : World). all_back_in lent w more lists) here ∙ all_back lent after more lists later apart.1 kept (omega (arith, long))
+-- all that was held comes back to it: what was made was stored in the world with them
+pub all_back : (lent : AccessRow → Bool) (world : World) (accesses : List AccessRow) (fulls lists : List (List ℤ)) → AreOf world accesses → AreAllApart lent accesses → AllComeBack lent world accesses fulls lists → all_back_in lent (without_all lent world accesses) accesses fulls ≡ stored world accesses lists
+all_back lent world [] fulls lists is apart back = refl
+all_back lent world (a ∷ more) [] lists is apart back = absurd back
+all_back lent world (a ∷ more) (full ∷ fulls) [] is apart back = absurd back
+all_back lent world (a ∷ more) (full ∷ fulls) (made ∷ lists) is apart back =
+    let after : World = stored_one world a made in
+    let here = one_back lent world a full made more is apart.0 back.0 in
+    let later = are_of world after more (length_stored world a made) is.1 in
+    let kept = come_after lent world after a more fulls lists apart.0 (λ n other. stored_beside world a made n is.0 other) back.1 in
+    ap (λ (w : World). all_back_in lent w more fulls) here ∙ all_back lent after more fulls lists later apart.1 kept

@@ -5,8 +5,11 @@ pub mod WalkLemmas
 pub mod ReadLemmas
 pub mod LendingLemmas
 pub mod TaskLemmas
+pub mod RunLemmas
 pub mod AccessLemmas
 pub mod StepLemmas
+pub mod HeldLemmas
+pub mod FewLemmas
 pub mod MovesLayoutLemmas
 pub mod MovesHomesLemmas
 pub mod MovesVisitsLemmas

@@ -18,7 +18,7 @@ use Rattle.dd_meaning.specs.Worlds.{World, values_of}
 use Rattle.dd_plain.specs.Lists.{lists_of}
 use Rattle.dd_plain.specs.Sizes.{HasSizes}
 use Rattle.dd_plain.proofs.RegionLemmas.{row_at}
-use Rattle.dd_plain.proofs.TaskLemmas.{held}
+use Rattle.dd_plain.proofs.TaskLemmas.{holds_values}
 use Rattle.dd_plain.proofs.WorldLemmas.{as_many, has_size}
 use Rattle.std.proofs.lemmas.List.{length-map}
 
@@ -39,7 +39,7 @@ pub values_at : (plan : Plan) (world : List (Vec ℤ)) (n : ℕ) (values : List 
 values_at plan world n values v named sizes is value =
     let many = as_many plan.arrays (lists_of world) sizes in
     let count = length-map world (λ (w : Vec ℤ). w.items) in
-    value ∙ ap (λ (w : Vec ℤ). w.items) is ∙ held world n v named.0 (omega (arith, named.1, many, count))
+    value ∙ ap (λ (w : Vec ℤ). w.items) is ∙ holds_values world n v named.0 (omega (arith, named.1, many, count))
 
 pub grid_at : (plan : Plan) (arrays : List ArrayRow) (n : ℕ) (d : ArrayRow) → IsNumberIn plan.arrays n → arrays ≡ plan.arrays → (get_or arrays (n - 1) d).grid ≡ (array_row plan n).grid
 grid_at plan arrays n d named same = ap (λ (l : List ArrayRow). (get_or l (n - 1) d).grid) same ∙ ap (λ (a : ArrayRow). a.grid) (row_at no_array d plan.arrays n named)

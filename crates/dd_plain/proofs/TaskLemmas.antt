@@ -1,40 +1,37 @@
 -- Accesses of arrays of a world, and which of them are lent.
-use Rattle.std.proofs.Common.{◌≡◌, ◌≢◌, ℕ, zero, suc, ◌+◌, ◌-◌, ◌*◌, ◌<◌, ◌≤◌, ℤ, pos, Bool, true, false, ◌&&◌, cond, eqb, List, [], ◌∷◌, ◌++◌, length, map, get_or, refl, sym, ap, ◌∙◌, arith}
+use Rattle.std.proofs.Common.{◌≡◌, ◌≢◌, ℕ, zero, suc, ◌+◌, ◌-◌, ◌*◌, ◌^◌, ◌<◌, ◌≤◌, ◌⊎◌, ℤ, pos, Bool, true, false, ◌&&◌, cond, eqb, List, [], ◌∷◌, ◌++◌, length, map, get_or, refl, sym, ap, ◌∙◌, arith, rules, unsigned_abs, ⊎_elim}
 use Rattle.std.specs.Global.{Vec}
 use Rattle.std.specs.List.{AllByRecursion, filter, flat_map, range_with_len}
 use Rattle.std.proofs.lemmas.Bool.{eqb-true, eq-eqb}
 use Rattle.std.proofs.lemmas.Bool.Decides.{Decides-int_eq}
 use Rattle.std.proofs.lemmas.Int.{ints}
-use Rattle.std.proofs.lemmas.List.{get_or-map, take_all, map-id}
-use Rattle.dd_kernels.specs.Lists.{element}
-use Rattle.dd_kernels.proofs.ListsLemmas.{ap2}
+use Rattle.std.proofs.lemmas.List.{get_or-map, map-id}
+use Rattle.std.proofs.lemmas.List.FromFn.{get_or-range_with_len, length-range_with_len}
 use Rattle.std.proofs.lemmas.List.Sums.{sum_by-cons}
 use Rattle.dd_kernels.specs.Shapes.{size_of}
 use Rattle.dd_views.specs.declared.part.Part.{Part}
 use Rattle.dd_views.specs.declared.part.Part.TheVariants.{All as Whole, Lower, Upper, UnitLower, UnitUpper, Diag}
+use Rattle.dd_views.specs.declared.shape.Shape.{Shape}
 use Rattle.dd_views.specs.declared.span3.Span3.{Span3}
 use Rattle.dd_views.specs.declared.view.View.{View}
 use Rattle.dd_views.specs.IndexList.{column_list, index_list, keeps, number_at_place, places, position}
-use Rattle.dd_views.specs.Views.{IsView, shape_by}
+use Rattle.dd_views.specs.Span.{IsSpanIn, number}
+use Rattle.dd_views.specs.Views.{IsView, IsViewOf, shape_by}
 use Rattle.dd_views.specs.Columns.{size_by}
-use Rattle.dd_views.proofs.ViewLemmas.{length_view}
+use Rattle.dd_views.proofs.ElementsLemmas.{number_low}
+use Rattle.dd_views.proofs.SignedLemmas.{times_none}
+use Rattle.dd_views.proofs.ViewLemmas.{length_view, view_few}
 use Rattle.dd_blocks.specs.declared.access_row.AccessRow.{AccessRow}
-use Rattle.dd_blocks.specs.declared.array_row.ArrayRow.{ArrayRow}
-use Rattle.dd_blocks.specs.Grids.{element_count}
-use Rattle.dd_blocks.specs.Numbered.{numbered, no_array}
 use Rattle.dd_blocks.specs.Tasks.{kernel_shape}
-use Rattle.dd_meaning.specs.Steps.{gathered}
 use Rattle.dd_meaning.specs.Worlds.{World, values_of}
-use Rattle.dd_plain.specs.Lending.{counts_to, is_lent, is_whole, keeps_all, uses_of}
+use Rattle.dd_plain.specs.Lending.{IsHeld, is_lent, is_run, keeps_all, uses_of}
 use Rattle.dd_plain.specs.Lists.{lists_of}
-use Rattle.dd_plain.specs.Sizes.{IsInArray}
 use Rattle.dd_plain.proofs.LendingLemmas.{AreApart, AreAllApart}
-use Rattle.dd_plain.proofs.WalkLemmas.{elements_run}
 
 -- the vector of an array holds its values
-pub held : (world : List (Vec ℤ)) (n : ℕ) (d : Vec ℤ) → 1 ≤ n → n ≤ length world → (get_or world (n - 1) d).items ≡ values_of (lists_of world) n
-held world zero d low high = absurd (omega arith)
-held world (suc n) d low high =
+pub holds_values : (world : List (Vec ℤ)) (n : ℕ) (d : Vec ℤ) → 1 ≤ n → n ≤ length world → (get_or world (n - 1) d).items ≡ values_of (lists_of world) n
+holds_values world zero d low high = absurd (omega arith)
+holds_values world (suc n) d low high =
     let same : suc n - 1 ≡ n = omega arith in
     rw same (sym (get_or-map (λ (v : Vec ℤ). v.items) world n d [] (omega (arith, high))))
 
@@ -44,7 +41,7 @@ both_true true q h = (refl, h)
 both_true false q h = absurd (cc)
 
 -- the positions of a view of rows and columns that count from 1
-same_map : (f g : ℕ → ℕ) (a b n : ℕ) → ((i : ℕ) → i < n → f (a + i) ≡ g (b + i)) → map f (range_with_len a n) ≡ map g (range_with_len b n)
+pub same_map : {X : Type 0} (f g : ℕ → X) (a b n : ℕ) → ((i : ℕ) → i < n → f (a + i) ≡ g (b + i)) → map f (range_with_len a n) ≡ map g (range_with_len b n)
 same_map f g a b zero same = refl
 same_map f g a b (suc n) same =
     let none_a : a + 0 ≡ a = omega arith in
@@ -62,16 +59,16 @@ joined a (suc m) n =
     let more : suc m + n ≡ suc (m + n) = omega arith in
     rw (next, more) (ap (λ xs. a ∷ xs) (joined (a + 1) m n))
 
-columns_joined : (f : ℕ → List ℕ) (height a n : ℕ) → ((j : ℕ) → j < n → f (suc (a + j)) ≡ range_with_len ((a + j) * height) height) → flat_map f (range_with_len (suc a) n) ≡ range_with_len (a * height) (n * height)
-columns_joined f height a zero each = let none : 0 * height ≡ 0 = omega arith in rw none refl
-columns_joined f height a (suc n) each =
+columns_joined : (f : ℕ → List ℕ) (start height a n : ℕ) → ((j : ℕ) → j < n → f (suc (a + j)) ≡ range_with_len (start + (a + j) * height) height) → flat_map f (range_with_len (suc a) n) ≡ range_with_len (start + a * height) (n * height)
+columns_joined f start height a zero each = let none : 0 * height ≡ 0 = omega arith in rw none refl
+columns_joined f start height a (suc n) each =
     let none : a + 0 ≡ a = omega arith in
-    let head : f (suc a) ≡ range_with_len (a * height) height = rw none at (each 0 (omega arith)) in
+    let head : f (suc a) ≡ range_with_len (start + a * height) height = rw none at (each 0 (omega arith)) in
     let next : suc a + 1 ≡ suc (suc a) = omega arith in
-    let place : suc a * height ≡ a * height + height = omega arith in
+    let place : start + suc a * height ≡ start + a * height + height = omega arith in
     let all : height + n * height ≡ suc n * height = omega arith in
-    let later = columns_joined f height (suc a) n (λ j lt. let at : suc a + j ≡ a + suc j = omega arith in rw at (each (suc j) (omega arith))) in
-    rw (head, next, later, place) (joined (a * height) height (n * height) ∙ ap (range_with_len (a * height)) all)
+    let later = columns_joined f start height (suc a) n (λ j lt. let at : suc a + j ≡ a + suc j = omega arith in rw at (each (suc j) (omega arith))) in
+    rw (head, next, later, place) (joined (start + a * height) height (n * height) ∙ ap (range_with_len (start + a * height)) all)
 
 filter_true : (xs : List ℕ) → filter (λ x. true) xs ≡ xs
 filter_true [] = refl
@@ -88,30 +85,53 @@ kept_all Diag n j whole = absurd (cc)
 all_kept : (v : View) (j : ℕ) → keeps_all v.part ≡ true → column_list v j ≡ map (λ i. position v i j) (places v.rows.count)
 all_kept v j whole = ap (map (λ i. position v i j)) (kept_all v.part v.rows.count j whole)
 
--- what stands in such a span
-counted : (n : ℕ) (s : Span3) → counts_to n s ≡ true → (s.first ≡ 1) × (s.step ≡ pos 1) × (s.count ≡ n)
-counted n s h =
-    let first = both_true _ _ h in
+-- the numbers of a run
+number_on : (s : Span3) (i : ℕ) → s.step ≡ pos 1 → number_at_place s (suc i) ≡ s.first + i
+number_on s i step = let less : suc i - 1 ≡ i = omega arith in rw (less, step) (omega (arith, ints))
+
+number_first : (s : Span3) → number_at_place s 1 ≡ s.first
+number_first s = let same : number s (1 - 1) ≡ pos s.first = omega (arith, ints, times_none s.step) in ap unsigned_abs same
+
+first_low : (length : ℕ) (s : Span3) → IsSpanIn length s → 0 < s.count → 1 ≤ s.first
+first_low length s span some = omega (arith, number_low length s 1 span (omega arith) some, number_first s)
+
+-- where a column of a run begins
+abbrev IsRow : View → Type 0
+IsRow v = (v.cols.count ≤ 1) ⊎ ((v.cols.step ≡ pos 1) × (v.rows.count ≡ v.height))
+
+column_on : (v : View) (j : ℕ) → IsRow v → j < v.cols.count → 1 ≤ v.cols.first → (number_at_place v.cols (suc j) - 1) * v.height ≡ (v.cols.first - 1) * v.height + j * v.rows.count
+column_on v j row lt low = ⊎_elim
+    (λ (one : v.cols.count ≤ 1). let none : j ≡ 0 = omega (arith, lt) in rw (none, number_first v.cols) (omega arith))
+    (λ (all : (v.cols.step ≡ pos 1) × (v.rows.count ≡ v.height)).
+    let same : number_at_place v.cols (suc j) - 1 ≡ (v.cols.first - 1) + j = omega (arith, number_on v.cols j all.0, low) in
+    rw (same, all.1) (omega arith))
+    row
+
+run_rows : (v : View) → is_run v ≡ true → (keeps_all v.part ≡ true) × (v.rows.step ≡ pos 1) × IsRow v
+run_rows v run =
+    let first = both_true _ _ run in
     let other = both_true _ _ first.0 in
-    (eqb-true s.first 1 other.0, (Decides-int_eq s.step (pos 1)).0 other.1, eqb-true s.count n first.1)
+    (other.0, (Decides-int_eq v.rows.step (pos 1)).0 other.1, search (rules, first.1))
 
-number_counted : (s : Span3) (i : ℕ) → s.first ≡ 1 → s.step ≡ pos 1 → number_at_place s i ≡ 1 + (i - 1)
-number_counted s i first step = rw (first, step) (omega (arith, ints))
-
-pub whole_positions : (array : ArrayRow) (v : View) → is_whole array v ≡ true → v.height ≡ array.grid.rows → index_list v ≡ range_with_len 0 (element_count array.grid)
-whole_positions array v whole height =
-    let cols = both_true _ _ whole in
-    let rows = both_true _ _ cols.0 in
-    let row = counted array.grid.rows v.rows rows.1 in
-    let col = counted array.grid.cols v.cols cols.1 in
-    let each : (j : ℕ) → j < v.cols.count → column_list v (suc (0 + j)) ≡ range_with_len ((0 + j) * array.grid.rows) array.grid.rows = λ j lt.
-    let less : 1 + (suc (0 + j) - 1) - 1 ≡ 0 + j = omega arith in
+pub run_positions : (shape : Shape) (v : View) → IsViewOf shape v → is_run v ≡ true → (first : ℕ) × (index_list v ≡ range_with_len first (length (index_list v)))
+run_positions shape v view run =
+    let rows = run_rows v run in
+    let first : ℕ = (v.cols.first - 1) * v.height + (v.rows.first - 1) in
+    let each : (j : ℕ) → j < v.cols.count → column_list v (suc (0 + j)) ≡ range_with_len (first + (0 + j) * v.rows.count) v.rows.count = λ j lt.
     all_kept v (suc (0 + j)) rows.0
-    ∙ same_map (λ i. position v i (suc (0 + j))) (λ i. i) 1 ((0 + j) * array.grid.rows) v.rows.count (λ i below. rw (number_counted v.rows (1 + i) row.0 row.1, number_counted v.cols (suc (0 + j)) col.0 col.1, height) (ap (λ (n : ℕ). n * array.grid.rows + (1 + (1 + i - 1) - 1)) less ∙ omega arith))
-    ∙ map-id _ ∙ ap (range_with_len ((0 + j) * array.grid.rows)) row.2 in
-    let start : 0 * array.grid.rows ≡ 0 = omega arith in
-    let all : v.cols.count * array.grid.rows ≡ element_count array.grid = ap (λ (n : ℕ). n * array.grid.rows) col.2 ∙ omega arith in
-    columns_joined (column_list v) array.grid.rows 0 v.cols.count each ∙ ap2 range_with_len start all
+    ∙ same_map (λ i. position v i (suc (0 + j))) (λ i. i) 1 (first + (0 + j) * v.rows.count) v.rows.count (λ i below.
+    let next : 1 + i ≡ suc i = omega arith in
+    let low = first_low shape.rows v.rows view.rows (omega (arith, below)) in
+    let column = column_on v (0 + j) rows.2 (omega (arith, lt)) (first_low shape.cols v.cols view.cols (omega (arith, lt))) in
+    rw next (omega (arith, low, number_on v.rows i rows.1, column)))
+    ∙ map-id _ in
+    let none : first + 0 * v.rows.count ≡ first = omega arith in
+    let all = columns_joined (column_list v) first v.rows.count 0 v.cols.count each ∙ ap (λ (a : ℕ). range_with_len a (v.cols.count * v.rows.count)) none in
+    (first, all ∙ ap (range_with_len first) (sym (ap length all ∙ length-range_with_len first (v.cols.count * v.rows.count))))
+
+pub last_position : (first : ℕ) (v : View) (last count : ℕ) → count ≡ length (index_list v) → count ≢ 0 → index_list v ≡ range_with_len first (length (index_list v)) → last ≡ get_or (index_list v) (count - 1) 0 → last ≡ first + (count - 1)
+last_position first v last count long some run is =
+    is ∙ ap (λ l. get_or l (count - 1) 0) run ∙ get_or-range_with_len first (length (index_list v)) (count - 1) 0 (omega (arith, long, some))
 
 -- how many elements an access has
 long_by : (p : Part) (v : View) → length (index_list v) ≡ size_by p v.rows.count v.cols.count → length (index_list v) ≡ (shape_by p v).rows * (shape_by p v).cols
@@ -125,15 +145,11 @@ long_by Diag v long = omega arith
 pub long_view : (v : View) → IsView v → length (index_list v) ≡ size_of (kernel_shape v)
 long_view v view = long_by v.part v (length_view v view)
 
--- an access that is lent has all of its array
-pub lent_whole : (arrays : List ArrayRow) (accesses : List AccessRow) (a : AccessRow) → IsInArray arrays a → is_lent arrays accesses a ≡ true → index_list a.view ≡ range_with_len 0 (element_count (numbered no_array arrays a.view.array).grid)
-lent_whole arrays accesses a is lent = whole_positions (numbered no_array arrays a.view.array) a.view (both_true _ _ lent).0 is.view.height
+pub run_filled : (v : View) (first count : ℕ) → IsView v → index_list v ≡ range_with_len first count → count ≡ size_of (kernel_shape v)
+run_filled v first count view run = sym (ap length run ∙ length-range_with_len first count) ∙ long_view v view
 
--- what is gathered of it are the values of its array
-pub gathered_whole : (world : World) (a : AccessRow) (n : ℕ) → index_list a.view ≡ range_with_len 0 n → length (values_of world a.view.array) ≡ n → gathered world a ≡ values_of world a.view.array
-gathered_whole world a n whole long =
-    let values = values_of world a.view.array in
-    ap (map (element values)) whole ∙ elements_run values 0 n (omega (arith, long)) ∙ take_all n values (omega (arith, long))
+pub few_held : {lent : AccessRow → Bool} {a : AccessRow} {count : ℕ} → IsHeld lent a count → length (index_list a.view) < 2 ^ 32
+few_held {a = a} is = omega (arith, length_view a.view (is.shape, is.view), view_few is.shape a.view is.view, is.small)
 
 -- how many accesses are of an array, one after the other
 uses_cons : (b : AccessRow) (more : List AccessRow) (n : ℕ) → uses_of (b ∷ more) n ≡ cond (eqb b.view.array n) 1 0 + uses_of more n
@@ -183,9 +199,9 @@ few_apart lent (x ∷ more) few = (
   few_apart lent more (few_less lent x more more few.1),
 )
 
-few_lent : (arrays : List ArrayRow) (whole accesses : List AccessRow) → FewUse (is_lent arrays whole) whole accesses
-few_lent arrays whole [] = tt
-few_lent arrays whole (a ∷ more) = ((λ lent. let one = eqb-true (uses_of whole a.view.array) 1 (both_true _ _ lent).1 in omega (arith, one)), few_lent arrays whole more)
+few_lent : (whole accesses : List AccessRow) → FewUse (is_lent whole) whole accesses
+few_lent whole [] = tt
+few_lent whole (a ∷ more) = ((λ lent. let one : uses_of whole a.view.array ≡ 1 = eqb-true (uses_of whole a.view.array) 1 (both_true (is_run a.view) (eqb (uses_of whole a.view.array) 1) lent).1 in omega (arith, one)), few_lent whole more)
 
-pub lent_apart : (arrays : List ArrayRow) (accesses : List AccessRow) → AreAllApart (is_lent arrays accesses) accesses
-lent_apart arrays accesses = few_apart (is_lent arrays accesses) accesses (few_lent arrays accesses accesses)
+pub lent_apart : (accesses : List AccessRow) → AreAllApart (is_lent accesses) accesses
+lent_apart accesses = few_apart (is_lent accesses) accesses (few_lent accesses accesses)

@@ -2,6 +2,7 @@ pub mod Lists
 pub mod Sizes
 pub mod Walks
 pub mod Lending
+pub mod Runs
 pub mod MovesMarks
 pub mod MovesHomes
 pub mod MovesVisits

@@ -1,10 +1,10 @@
-//! Which arrays a task may have whole.
-ghost use Rattle.std.specs.Prelude.{◌≡◌};
-ghost use Rattle.dd_blocks.specs.Numbered.{IsNumberIn, numbered, no_array};
-ghost use Rattle.dd_plain.specs.Lending.{counts_to, is_lent, is_whole, keeps_all, uses_of};
+//! Which arrays a task may have without a copy.
+ghost use Rattle.std.specs.Prelude.{◌≡◌, ◌+◌, ◌*◌, ◌≤◌};
+ghost use Rattle.std.specs.Prelude.{true};
+ghost use Rattle.dd_plain.specs.Lending.{is_lent, is_run, keeps_all, uses_of};
 
-use dd_blocks::{AccessRow, ArrayRow};
-use dd_views::{Part, Span3, View};
+use dd_blocks::AccessRow;
+use dd_views::{Part, View};
 
 /// Whether a part keeps all elements.
 fn keeps_all(part: Part) -> bool
@@ -16,20 +16,14 @@ fn keeps_all(part: Part) -> bool
     }
 }
 
-/// Whether the numbers are 1 to `n`.
-fn counts_to(n: u32, span: &Span3) -> bool
-    ensures { result ≡ counts_to n span.now }
-{
-    span.first == 1 && span.step == 1 && span.count == n
-}
-
-/// Whether a view is all of an array, in its order.
-fn is_whole(array: &ArrayRow, view: &View) -> bool
-    ensures { result ≡ is_whole array.now view.now }
+/// Whether the elements of a view stand one after the other in its array: rows one after the other of at most one
+/// column, or all rows of columns one after the other.
+pub(crate) fn is_run(view: &View) -> bool
+    ensures { result ≡ is_run view.now }
 {
     keeps_all(view.part)
-        && counts_to(array.grid.rows, &view.rows)
-        && counts_to(array.grid.cols, &view.cols)
+        && view.rows.step == 1
+        && (view.cols.count <= 1 || view.cols.step == 1 && view.rows.count == view.height)
 }
 
 /// How many accesses are of an array.
@@ -42,11 +36,9 @@ fn uses_of(accesses: &[AccessRow], array: u32) -> usize
         .count()
 }
 
-/// Whether an access is all of an array that no other one of the accesses uses. Its vector need not be copied then.
-pub(crate) fn is_lent(arrays: &[ArrayRow], accesses: &[AccessRow], access: &AccessRow) -> bool
-    requires { IsNumberIn arrays.now access.now.view.array }
-    ensures { result ≡ is_lent arrays.now accesses.now access.now }
+/// Whether an access is a run of an array that no other one of the accesses uses. Its vector need not be copied then.
+pub(crate) fn is_lent(accesses: &[AccessRow], access: &AccessRow) -> bool
+    ensures { result ≡ is_lent accesses.now access.now }
 {
-    let array = access.view.array;
-    is_whole(&arrays[array as usize - 1], &access.view) && uses_of(accesses, array) == 1
+    is_run(&access.view) && uses_of(accesses, access.view.array) == 1
 }

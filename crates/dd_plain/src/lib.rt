@@ -9,23 +9,29 @@
 //! program, `text_of` of `dd_meaning/specs/Text.antt`, and knows nothing of spaces, copies or workers but for that count.
 //! A run that keeps the limits of spaces is compared with it, and does not rest on it.
 //!
-//! The values of each array are one vector, column by column. A task that has all of an array, which none of its other
-//! accesses uses, is lent the vector, without a copy; other accesses are gathered column by column, and stored back
-//! where they are written, in their order. Besides the vectors a run takes a byte for each element, which counts where
-//! the element is, the buffers of one task, and room for the text that waits to be written: some rows of an array, or a line.
+//! The values of each array are one vector, column by column. A kernel runs without a copy where the elements of an
+//! access stand one after the other in it: rows that are neighbours in one column, or whole columns that are neighbours.
+//! The array's vector is lent to a task whose other accesses don't use that array, and to one of just two accesses, both
+//! of that array, that share no element. Other accesses are gathered column by column, and stored back where they are
+//! written, in their order; so are those of an array that a task of three accesses uses twice. Besides the vectors a
+//! run takes a byte for each element, which counts where the element is, the buffers of one task, and room for the text
+//! that waits to be written: some rows of an array, or a line.
 //!
-//! Inside, `world` fills the arrays, `gathering` and `storing` walk a view over an array, `lending` says which arrays a
-//! task may have whole, `task` runs tasks, `tasks` finds those of a region, `moves` counts what a region moves,
-//! `printing` writes lines, and `run` goes from row to row. What is lent stands in `specs/Lending.antt`, what a run has
-//! between two rows in `specs/Rows.antt`.
+//! Inside, `world` fills the arrays, `gathering` and `storing` walk a view over an array, `runs` finds where elements
+//! stand one after the other, `lending` says which arrays a task may have, `computing` runs kernels, `task` runs tasks,
+//! `tasks` finds those of a region, `moves` counts what a region moves, `printing` writes lines, and `run` goes from row
+//! to row. What is lent stands in `specs/Lending.antt`, what a kernel leaves of it in `specs/Runs.antt`, and what a run
+//! has between two rows in `specs/Rows.antt`.
 #![tactic(auto)]
 
+mod computing;
 mod fault;
 mod gathering;
 mod lending;
 mod moves;
 mod printing;
 mod run;
+mod runs;
 mod storing;
 mod task;
 mod tasks;

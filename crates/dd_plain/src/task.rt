@@ -1,23 +1,21 @@
 //! One task after the other.
-ghost use Rattle.std.specs.Prelude.{◌≡◌, ◌^◌, ◌<◌, List, true, false, length, map, OnOk, IfOk, All};
+ghost use Rattle.std.specs.Prelude.{◌≡◌, ◌+◌, List, true, false, length, map, OnOk, IfOk, All};
 ghost use Rattle.std.specs.List.{fold};
-ghost use Rattle.dd_kernels.specs.Shapes.{HaveShapes};
 ghost use Rattle.dd_views.specs.IndexList.{index_list};
-ghost use Rattle.dd_views.specs.Views.{IsView};
 ghost use Rattle.dd_blocks.specs.Conflicts.{writes};
-ghost use Rattle.dd_blocks.specs.Tasks.{kernel_shape, shapes_in};
 ghost use Rattle.dd_meaning.specs.Steps.{gathered, step};
-ghost use Rattle.dd_plain.specs.Lending.{AreThere, all_back_in, back_in, is_lent, without, without_all};
+ghost use Rattle.dd_plain.specs.Lending.{AreHeld, AreThere, all_back_in, back_in, held, is_lent, without, without_all};
 ghost use Rattle.dd_plain.specs.Lists.{lists_of};
+ghost use Rattle.dd_plain.specs.Runs.{AreBeside};
 ghost use Rattle.dd_plain.specs.Sizes.{CanRun, HasSizeOf, HasSizes, IsInArray};
 
+use crate::computing::{compute, kernel_shape, run_beside};
 use crate::gathering::gather;
 use crate::lending::is_lent;
+use crate::runs::{Run, beside};
 use crate::storing::store;
-use dd_apply::apply;
 use dd_blocks::{AccessRow, ArrayRow, TaskRow};
-use dd_kernels::{Args, Mode, Shape};
-use dd_views::View;
+use dd_kernels::Mode;
 use std::alloc::{AllocError, Global};
 use std::mem::replace;
 
@@ -39,7 +37,7 @@ pub(crate) fn run_tasks(
     Ok(())
 }
 
-/// Runs a task: the values of its accesses are taken, its kernel computes, and what it wrote comes back.
+/// Runs a task: in place where its two accesses share only their array, or else on what it holds of its accesses.
 fn run_task(
     alloc: Global,
     arrays: &[ArrayRow],
@@ -51,39 +49,69 @@ fn run_task(
     ensures stepped { OnOk result (lists_of world.new ≡ step (lists_of world.old) task.now) }
     ensures sizes { OnOk result (HasSizes arrays.now (lists_of world.new)) }
 {
+    match beside(task.accesses.as_slice()) {
+        Some(at) => {
+            run_in_place(arrays, world, task, at);
+            Ok(())
+        }
+        None => run_held(alloc, arrays, world, task),
+    }
+}
+
+/// Runs a task whose two accesses are runs of one array, which are apart.
+fn run_in_place(arrays: &[ArrayRow], world: &mut [Vec<i64>], task: &TaskRow, at: (Run, Run))
+    requires can { CanRun arrays.now task.now }
+    requires sizes { HasSizes arrays.now (lists_of world.old) }
+    requires beside { AreBeside task.now.accesses at.0 at.1 }
+    ensures { lists_of world.new ≡ step (lists_of world.old) task.now }
+{
+    let [first, second] = task.accesses.as_slice() else {
+        unreachable!();
+    };
+    let shapes = (kernel_shape(&first.view), kernel_shape(&second.view));
+    let place = first.view.array as usize - 1;
+    run_beside(task, shapes, at, &mut world[place]);
+}
+
+/// Runs a task: what it holds of its accesses is taken, its kernel computes, and what it wrote comes back.
+fn run_held(
+    alloc: Global,
+    arrays: &[ArrayRow],
+    world: &mut [Vec<i64>],
+    task: &TaskRow,
+) -> Result<(), AllocError>
+    requires can { CanRun arrays.now task.now }
+    requires sizes { HasSizes arrays.now (lists_of world.old) }
+    ensures stepped { OnOk result (lists_of world.new ≡ step (lists_of world.old) task.now) }
+    ensures sizes { OnOk result (HasSizes arrays.now (lists_of world.new)) }
+{
     let accesses = task.accesses.as_slice();
-    let mut args = take_all(alloc, arrays, world, accesses)?;
-    apply(task.kernel, task.scalar, &mut args);
-    return_all(alloc, arrays, world, accesses, &mut args.bufs);
+    let mut held = take_all(alloc, arrays, world, accesses)?;
+    compute(task, &mut held);
+    return_all(alloc, arrays, world, accesses, &mut held);
     Ok(())
 }
 
-/// The arguments of a kernel: the values of each access with its shape. Arrays that are lent leave the world.
+/// What a task holds of each access. Arrays that are lent leave the world.
 fn take_all(
     alloc: Global,
     arrays: &[ArrayRow],
     world: &mut [Vec<i64>],
     accesses: &[AccessRow],
-) -> Result<Args, AllocError>
+) -> Result<Vec<Vec<i64>>, AllocError>
     requires in_arrays { All (IsInArray arrays.now) accesses.now }
     requires sizes { HasSizes arrays.now (lists_of world.old) }
-    ensures shapes { IfOk result (λ args. args.shapes.items ≡ shapes_in accesses.now) }
-    ensures lists { IfOk result (λ args. lists_of args.bufs.items ≡ map (gathered (lists_of world.old)) accesses.now) }
-    ensures world { OnOk result (lists_of world.new ≡ without_all (is_lent arrays.now accesses.now) (lists_of world.old) accesses.now) }
+    ensures lists { IfOk result (λ bufs. lists_of bufs.items ≡ map (held (is_lent accesses.now) (lists_of world.old)) accesses.now) }
+    ensures world { OnOk result (lists_of world.new ≡ without_all (is_lent accesses.now) (lists_of world.old) accesses.now) }
 {
-    let mut args = Args {
-        shapes: Vec::new(alloc),
-        bufs: Vec::new(alloc),
-    };
+    let mut bufs = Vec::new(alloc);
     for access in accesses {
-        let buf = take(alloc, arrays, world, accesses, access)?;
-        args.bufs.push(buf)?;
-        args.shapes.push(kernel_shape(&access.view))?;
+        bufs.push(take(alloc, arrays, world, accesses, access)?)?;
     }
-    Ok(args)
+    Ok(bufs)
 }
 
-/// The values of an access. An array that is lent leaves the world.
+/// What a task holds of an access: its array, which leaves the world, where that is lent, or else its values.
 fn take(
     alloc: Global,
     arrays: &[ArrayRow],
@@ -94,11 +122,11 @@ fn take(
     requires in_array { IsInArray arrays.now access.now }
     requires paired { length world.old ≡ length arrays.now }
     requires size { HasSizeOf arrays.now (lists_of world.old) access.now }
-    ensures values { IfOk result (λ buf. buf.items ≡ gathered (lists_of world.old) access.now) }
-    ensures world { OnOk result (lists_of world.new ≡ without (is_lent arrays.now accesses.now) (lists_of world.old) access.now) }
+    ensures values { IfOk result (λ buf. buf.items ≡ held (is_lent accesses.now) (lists_of world.old) access.now) }
+    ensures world { OnOk result (lists_of world.new ≡ without (is_lent accesses.now) (lists_of world.old) access.now) }
 {
     let place = access.view.array as usize - 1;
-    if is_lent(arrays, accesses, access) {
+    if is_lent(accesses, access) {
         return Ok(replace(&mut world[place], Vec::new(alloc)));
     }
     let mut buf = Vec::with_capacity(alloc, access.view.len() as usize)?;
@@ -106,20 +134,7 @@ fn take(
     Ok(buf)
 }
 
-/// The shape of an access, for a kernel.
-fn kernel_shape(view: &View) -> Shape
-    requires view { IsView view.now }
-    requires few { length (index_list view.now) < 2 ^ 32 }
-    ensures { result ≡ kernel_shape view.now }
-{
-    let shape = view.shape();
-    Shape {
-        rows: shape.rows,
-        cols: shape.cols,
-    }
-}
-
-/// The values of buffers come back to accesses, in the order of these.
+/// What a task held of accesses comes back, in the order of these.
 fn return_all(
     alloc: Global,
     arrays: &[ArrayRow],
@@ -129,9 +144,9 @@ fn return_all(
 )
     requires in_arrays { All (IsInArray arrays.now) accesses.now }
     requires paired { length world.old ≡ length arrays.now }
-    requires there { AreThere arrays.now (is_lent arrays.now accesses.now) (lists_of world.old) accesses.now }
-    requires filled { HaveShapes (shapes_in accesses.now) (lists_of bufs.old) }
-    ensures { lists_of world.new ≡ all_back_in (is_lent arrays.now accesses.now) (lists_of world.old) accesses.now (lists_of bufs.old) }
+    requires there { AreThere arrays.now (is_lent accesses.now) (lists_of world.old) accesses.now }
+    requires held { AreHeld (is_lent accesses.now) accesses.now (lists_of bufs.old) }
+    ensures { lists_of world.new ≡ all_back_in (is_lent accesses.now) (lists_of world.old) accesses.now (lists_of bufs.old) }
 {
     for (i, access) in accesses.iter().enumerate() {
         let buf = replace(&mut bufs[i], Vec::new(alloc));
@@ -139,7 +154,8 @@ fn return_all(
     }
 }
 
-/// Values come back to an access: as its array where that was lent, or else to its positions, where it is written.
+/// What was held of an access comes back: as its array where that was lent, or else to its positions, where it is
+/// written.
 fn return_to(
     arrays: &[ArrayRow],
     world: &mut [Vec<i64>],
@@ -149,12 +165,12 @@ fn return_to(
 )
     requires in_array { IsInArray arrays.now access.now }
     requires paired { length world.old ≡ length arrays.now }
-    requires there { is_lent arrays.now accesses.now access.now ≡ false → HasSizeOf arrays.now (lists_of world.old) access.now }
-    requires long { length buf.items ≡ length (index_list access.now.view) }
-    ensures { lists_of world.new ≡ back_in (is_lent arrays.now accesses.now) (lists_of world.old) access.now buf.items }
+    requires there { is_lent accesses.now access.now ≡ false → HasSizeOf arrays.now (lists_of world.old) access.now }
+    requires long { is_lent accesses.now access.now ≡ false → length buf.items ≡ length (index_list access.now.view) }
+    ensures { lists_of world.new ≡ back_in (is_lent accesses.now) (lists_of world.old) access.now buf.items }
 {
     let place = access.view.array as usize - 1;
-    if is_lent(arrays, accesses, access) {
+    if is_lent(accesses, access) {
         world[place] = buf;
     } else if writes(access.mode) {
         store(&mut world[place], &access.view, &buf);

@@ -7,21 +7,21 @@ use Rattle.dd_plain.proofs.TaskLemmas.{lent_apart}
 use Rattle.dd_plain.proofs.task.return_all.Goals as goal
 
 pub bounds-bufs-i : goal.bounds-bufs-i
-bounds-bufs-i c = some_left c.args.accesses.now c.loop-i.bufs c.loop-i.i c.loop-i-test.true c.loop-i.invariant.filled
+bounds-bufs-i c = some_left (is_lent c.args.accesses.now) c.args.accesses.now c.loop-i.bufs c.loop-i.i c.loop-i-test.true c.loop-i.invariant.are_held
 
 pub loop-i-init : goal.loop-i-init
 loop-i-init c = record {
   world = refl;
   there = c.requires.there;
   count = length-map c.args.world.now (λ v. v.items) ∙ c.requires.paired;
-  filled = c.requires.filled;
-  apart = lent_apart c.args.arrays.now c.args.accesses.now;
+  are_held = c.requires.held;
+  apart = lent_apart c.args.accesses.now;
   in_arrays = c.requires.in_arrays;
 }
 
 pub loop-i-preserved : goal.loop-i-preserved
 loop-i-preserved c =
-    let within = some_left c.args.accesses.now c.loop-i.bufs c.loop-i.i c.loop-i-test.true c.loop-i.invariant.filled in
+    let within = some_left (is_lent c.args.accesses.now) c.args.accesses.now c.loop-i.bufs c.loop-i.i c.loop-i-test.true c.loop-i.invariant.are_held in
     let next = drop_more c.args.accesses.now c.loop-i.i _ c.loop-i-test.true in
     let buf = c.replace-buf.ensures.value ∙ sym c.index-bufs-i.is in
     let held = buf ∙ c.index-bufs-i.is ∙ ap (get_or c.loop-i.bufs c.loop-i.i) (sym buf) in
@@ -30,7 +30,7 @@ loop-i-preserved c =
 
 pub return_to-requires : goal.return_to-requires
 return_to-requires c =
-    let within = some_left c.args.accesses.now c.loop-i.bufs c.loop-i.i c.loop-i-test.true c.loop-i.invariant.filled in
+    let within = some_left (is_lent c.args.accesses.now) c.args.accesses.now c.loop-i.bufs c.loop-i.i c.loop-i-test.true c.loop-i.invariant.are_held in
     let next = drop_more c.args.accesses.now c.loop-i.i _ c.loop-i-test.true in
     let buf = c.replace-buf.ensures.value ∙ sym c.index-bufs-i.is in
     let held = buf ∙ c.index-bufs-i.is ∙ ap (get_or c.loop-i.bufs c.loop-i.i) (sym buf) in
@@ -45,4 +45,4 @@ return_to-requires c =
 pub returns : goal.returns
 returns c =
     let none = drop_all c.loop-i.i c.args.accesses.now c.loop-i-test.false in
-    sym (ap (λ l. all_back_in (is_lent c.args.arrays.now c.args.accesses.now) (lists_of c.loop-i.world) l (drop c.loop-i.i (lists_of c.loop-i.bufs))) none) ∙ c.loop-i.invariant.world
+    sym (ap (λ l. all_back_in (is_lent c.args.accesses.now) (lists_of c.loop-i.world) l (drop c.loop-i.i (lists_of c.loop-i.bufs))) none) ∙ c.loop-i.invariant.world

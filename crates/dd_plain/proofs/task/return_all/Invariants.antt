@@ -6,4 +6,4 @@ use Rattle.dd_plain.proofs.task.return_all.Given as goal
 
 abbrev pub invariant-loop-i : goal.invariant-loop-i
 invariant-loop-i l =
-    IsReturning l.arrays (is_lent l.arrays l.accesses) (lists_of l.world) (all_back_in (is_lent l.arrays l.accesses) (lists_of l.initial.world) l.accesses (lists_of l.initial.bufs)) (drop l.i l.accesses) (drop l.i (lists_of l.bufs))
+    IsReturning l.arrays (is_lent l.accesses) (lists_of l.world) (all_back_in (is_lent l.accesses) (lists_of l.initial.world) l.accesses (lists_of l.initial.bufs)) (drop l.i l.accesses) (drop l.i (lists_of l.bufs))

@@ -5,16 +5,14 @@ use Rattle.dd_views.specs.IndexList.{index_list}
 use Rattle.dd_blocks.specs.Tasks.{shape_in}
 use Rattle.dd_blocks.specs.Numbered.{numbered, no_array}
 use Rattle.dd_plain.specs.Lists.{lists_of}
-use Rattle.dd_plain.proofs.TaskLemmas.{gathered_whole, held, lent_whole}
+use Rattle.dd_plain.proofs.TaskLemmas.{holds_values}
 use Rattle.dd_plain.proofs.task.take.Goals as goal
 
 pub returns-then-is_lent-clause-values : goal.returns-then-is_lent-clause-values
 returns-then-is_lent-clause-values c =
-    let a = c.args.access.now in
     let lent = sym c.is_lent.ensures ∙ c.if-is_lent.true in
-    let here = held c.args.world.now a.view.array c.index-world-place.result c.requires.in_array.named.0 (omega (arith, c.requires.in_array.named.1, c.requires.paired)) in
-    ap (λ v. v.items) c.replace.ensures.value ∙ here
-    ∙ sym (gathered_whole (lists_of c.args.world.now) a _ (lent_whole c.args.arrays.now c.args.accesses.now a c.requires.in_array lent) c.requires.size)
+    let here = holds_values c.args.world.now c.args.access.now.view.array c.index-world-place.result c.requires.in_array.named.0 (omega (arith, c.requires.in_array.named.1, c.requires.paired)) in
+    rw lent (ap (λ v. v.items) c.replace.ensures.value ∙ here)
 
 pub returns-then-is_lent-clause-world : goal.returns-then-is_lent-clause-world
 returns-then-is_lent-clause-world c =
@@ -24,7 +22,7 @@ returns-then-is_lent-clause-world c =
 
 pub gather-requires : goal.gather-requires
 gather-requires c =
-    let here = held c.args.world.now c.args.access.now.view.array c.index-world-place-2.result c.requires.in_array.named.0 (omega (arith, c.requires.in_array.named.1, c.requires.paired)) in
+    let here = holds_values c.args.world.now c.args.access.now.view.array c.index-world-place-2.result c.requires.in_array.named.0 (omega (arith, c.requires.in_array.named.1, c.requires.paired)) in
     record {
       shape = shape_in (numbered no_array c.args.arrays.now c.args.access.now.view.array);
       view = c.requires.in_array.view;
@@ -33,7 +31,8 @@ gather-requires c =
 
 pub returns-clause-values : goal.returns-clause-values
 returns-clause-values c =
-    let here = held c.args.world.now c.args.access.now.view.array c.index-world-place-2.result c.requires.in_array.named.0 (omega (arith, c.requires.in_array.named.1, c.requires.paired)) in
-    c.in_ok-gather.ensures
+    let kept = sym c.is_lent.ensures ∙ c.if-is_lent.false in
+    let here = holds_values c.args.world.now c.args.access.now.view.array c.index-world-place-2.result c.requires.in_array.named.0 (omega (arith, c.requires.in_array.named.1, c.requires.paired)) in
+    rw kept (c.in_ok-gather.ensures
     ∙ ap (λ l. l ++ map (element c.deref.result.now) (index_list c.args.access.now.view)) c.in_ok-buf.ensures.items
-    ∙ ap (λ values. map (element values) (index_list c.args.access.now.view)) (c.deref.ensures.value ∙ here)
+    ∙ ap (λ values. map (element values) (index_list c.args.access.now.view)) (c.deref.ensures.value ∙ here))

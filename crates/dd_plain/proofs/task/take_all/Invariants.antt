@@ -6,4 +6,4 @@ use Rattle.dd_plain.proofs.task.take_all.Given as goal
 
 abbrev pub invariant-loop-access : goal.invariant-loop-access
 invariant-loop-access l =
-    IsTaking l.arrays (is_lent l.arrays l.accesses) (lists_of l.initial.world) (lists_of l.world) l.accesses (drop l.access-index l.accesses) l.args.shapes.items (lists_of l.args.bufs.items)
+    IsTaking l.arrays (is_lent l.accesses) (lists_of l.initial.world) (lists_of l.world) l.accesses (drop l.access-index l.accesses) (lists_of l.bufs.items)

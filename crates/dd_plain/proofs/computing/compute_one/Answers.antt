@@ -1,0 +1,5 @@
+use Rattle.dd_plain.proofs.TaskLemmas.{few_held}
+use Rattle.dd_plain.proofs.computing.compute_one.Goals as goal
+
+pub kernel_shape-requires-clause-few : goal.kernel_shape-requires-clause-few
+kernel_shape-requires-clause-few c = few_held c.requires.x_held
