@@ -8,6 +8,7 @@ use Rattle.dd_alias.specs.declared.band.Band.{Band}
 use Rattle.dd_alias.specs.declared.line.Line.{Line}
 use Rattle.dd_alias.specs.declared.pattern.Pattern.{Pattern}
 use Rattle.dd_alias.specs.declared.run.Run.{Run}
+use Rattle.dd_alias.specs.Columns.{high_of, low_of}
 use Rattle.dd_alias.specs.Places.{IsAt, IsIn}
 use Rattle.dd_alias.specs.Runs.{HasNumber}
 
@@ -60,6 +61,24 @@ pub record IsWithin (b : Band) (t : ℕ) : Type 0 where
   pub high : b.part ≢ All → line_at b.diagonal t ≤ b.last
   pub small : b.last < 2 ^ 63
 
+-- the least row that the band keeps at the turn, and the greatest
+abbrev pub low_at : Band → ℕ → ℕ
+low_at b t = low_of b.part (line_at b.diagonal t)
+
+abbrev pub high_at : Band → ℕ → ℕ
+high_at b t = high_of b.part (line_at b.diagonal t) b.last
+
+abbrev pub IsBelow : Band → Band → ℕ → Type 0
+IsBelow a b t = high_at a t < low_at b t
+
+-- one band is below the other at both turns
+abbrev pub AreApartAt : Band → Band → ℕ → ℕ → Type 0
+AreApartAt a b p q = (IsBelow a b p × IsBelow a b q) ⊎ (IsBelow b a p × IsBelow b a q)
+
 -- both bands keep a row of the run at the turn
 abbrev pub KeepBoth : Band → Band → Run → ℕ → Type 0
 KeepBoth a b rows t = (r : ℕ) × HasNumber rows r × KeepsAt a t r × KeepsAt b t r
+
+-- both bands keep a row of the run at a turn from p on, before q
+abbrev pub MeetBetween : Band → Band → Run → ℕ → ℕ → Type 0
+MeetBetween a b rows p q = (t : ℕ) × (p ≤ t) × (t < q) × KeepBoth a b rows t

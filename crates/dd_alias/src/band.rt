@@ -1,7 +1,7 @@
 //! The rows that a pattern keeps in one common column after another.
 ghost use Rattle.std.specs.Prelude.{◌≡◌, ℕ, ◌*◌, ◌/◌, ◌-◌, ◌^◌, ◌<◌, ◌≤◌, ◌↔◌, ◌≢◌, pos, MatchBool, min, unsigned_abs};
 ghost use Rattle.dd_views.specs.Span.{IsSmallSpan};
-ghost use Rattle.dd_alias.specs.Lines.{AreAlike, AreUnlike, IsBand, IsDiagonal, IsFacing, IsWithin, KeepsAt};
+ghost use Rattle.dd_alias.specs.Lines.{AreAlike, AreUnlike, IsBand, IsDiagonal, IsFacing, IsWithin, KeepsAt, high_at, low_at};
 ghost use Rattle.dd_alias.specs.Patterns.{IsPattern};
 ghost use Rattle.dd_alias.specs.Places.{IsBetween, IsIn};
 ghost use Rattle.dd_alias.specs.Runs.{HasNumber};
@@ -41,7 +41,9 @@ impl Band {
     /// Between which numbers the rows stand that are kept at a turn, from 0.
     pub fn rows_at(&self, turn: u64) -> Interval
         requires { IsWithin self.now turn }
-        ensures { (r : ℕ) → 1 ≤ r → r ≤ self.now.last → (KeepsAt self.now turn r ↔ IsBetween result r) }
+        ensures rows { (r : ℕ) → 1 ≤ r → r ≤ self.now.last → (KeepsAt self.now turn r ↔ IsBetween result r) }
+        ensures low { result.low ≡ low_at self.now turn }
+        ensures high { result.high ≡ high_at self.now turn }
     {
         kept(self.part, self.diagonal.number(turn), self.last)
     }

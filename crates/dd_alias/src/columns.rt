@@ -1,6 +1,7 @@
 //! What a part keeps.
 ghost use Rattle.std.specs.Prelude.{◌≡◌, ◌≢◌, ℕ, ◌≤◌, ◌<◌, ◌^◌, ◌↔◌, IsTrue, true};
 ghost use Rattle.dd_views.specs.IndexList.{keeps};
+ghost use Rattle.dd_alias.specs.Columns.{high_of, low_of};
 ghost use Rattle.dd_alias.specs.Places.{IsBetween};
 
 use crate::interval::Interval;
@@ -33,7 +34,9 @@ pub fn kept(part: Part, diagonal: u64, last: u64) -> Interval
     requires low { part ≢ Part.All → 1 ≤ diagonal }
     requires high { part ≢ Part.All → diagonal ≤ last }
     requires small { last < 2 ^ 63 }
-    ensures { (r : ℕ) → 1 ≤ r → r ≤ last → (keeps part r diagonal ≡ true) ↔ IsBetween result r }
+    ensures rows { (r : ℕ) → 1 ≤ r → r ≤ last → (keeps part r diagonal ≡ true) ↔ IsBetween result r }
+    ensures low { result.low ≡ low_of part diagonal }
+    ensures high { result.high ≡ high_of part diagonal last }
 {
     match part {
         Part::All => Interval { low: 1, high: last },

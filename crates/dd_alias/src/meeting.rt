@@ -1,7 +1,7 @@
 //! Whether two views share an element.
-ghost use Rattle.std.specs.Prelude.{◌≡◌, ℕ, ◌≤◌, ◌↔◌, IsTrue};
+ghost use Rattle.std.specs.Prelude.{◌≡◌, ℕ, ◌≤◌, ◌<◌, ◌↔◌, IsTrue};
 ghost use Rattle.dd_views.specs.Views.{IsView};
-ghost use Rattle.dd_alias.specs.Lines.{IsTurn, IsWithin, KeepBoth};
+ghost use Rattle.dd_alias.specs.Lines.{AreApartAt, IsBelow, IsTurn, IsWithin, KeepBoth, MeetBetween};
 ghost use Rattle.dd_alias.specs.Overlap.{Overlaps};
 ghost use Rattle.dd_alias.specs.Patterns.{AreCommon, IsPattern, IsSolid, Meets, pattern_of};
 ghost use Rattle.dd_alias.specs.Runs.{HasNumber};
@@ -105,12 +105,60 @@ fn meet_along(a: &Band, b: &Band, rows: &Run, cols: &Run) -> bool
     requires rows { (r : ℕ) → HasNumber rows.now r → (1 ≤ r) × (r ≤ a.now.last) × (r ≤ b.now.last) }
     ensures { IsTrue result ↔ ((t : ℕ) × IsTurn cols.now t × KeepBoth a.now b.now rows.now t) }
 {
-    for turn in 0..cols.count() {
-        if meet_at(a, b, rows, turn) {
-            return true;
-        }
+    meet_between(a, b, rows, 0, cols.count())
+}
+
+/// Whether both bands keep a common row at a turn from `first` on, before `end`. Bounds move evenly from turn to turn,
+/// or not at all: where one band is below the other at the first and at the last turn, so it is between. Else the
+/// question is asked of each half.
+fn meet_between(a: &Band, b: &Band, rows: &Run, first: u64, end: u64) -> bool
+    requires a { (t : ℕ) → t < end → IsWithin a.now t }
+    requires b { (t : ℕ) → t < end → IsWithin b.now t }
+    requires rows { (r : ℕ) → HasNumber rows.now r → (1 ≤ r) × (r ≤ a.now.last) × (r ≤ b.now.last) }
+    ensures { IsTrue result ↔ MeetBetween a.now b.now rows.now first end }
+{
+    if first >= end {
+        return false;
     }
-    false
+    let last = end - 1;
+    if meet_at(a, b, rows, first) {
+        return true;
+    }
+    if meet_at(a, b, rows, last) {
+        return true;
+    }
+    if are_apart_at(a, b, first, last) {
+        return false;
+    }
+    let middle = first + (end - first) / 2;
+    if meet_between(a, b, rows, first + 1, middle) {
+        return true;
+    }
+    meet_between(a, b, rows, middle, last)
+}
+
+/// Whether one band is below the other at both of two turns.
+fn are_apart_at(a: &Band, b: &Band, one: u64, other: u64) -> bool
+    requires one_a { IsWithin a.now one }
+    requires other_a { IsWithin a.now other }
+    requires one_b { IsWithin b.now one }
+    requires other_b { IsWithin b.now other }
+    ensures { IsTrue result → AreApartAt a.now b.now one other }
+{
+    if is_below(a, b, one) {
+        is_below(a, b, other)
+    } else {
+        is_below(b, a, one) && is_below(b, a, other)
+    }
+}
+
+/// Whether a band ends below the first row of the other at a turn.
+fn is_below(a: &Band, b: &Band, turn: u64) -> bool
+    requires a { IsWithin a.now turn }
+    requires b { IsWithin b.now turn }
+    ensures { IsTrue result ↔ IsBelow a.now b.now turn }
+{
+    a.rows_at(turn).high < b.rows_at(turn).low
 }
 
 /// Whether both bands keep a common row at a turn.

@@ -19,7 +19,7 @@ type Piece = (Steps, Steps, Part);
 /// A name, the size of an array, two views of it and whether they overlap.
 type Row = (&'static str, Size, Piece, Piece, bool);
 
-const ROWS: [Row; 16] = [
+const ROWS: [Row; 23] = [
     (
         "the lower triangle and what is above the diagonal",
         (3, 3),
@@ -103,6 +103,55 @@ const ROWS: [Row; 16] = [
         ((1, 1, 3), (1, 1, 3), Part::Diag),
         ((3, -1, 1), (1, 1, 3), Part::Diag),
         true,
+    ),
+    (
+        "diagonals beside each other",
+        (9, 8),
+        ((1, 1, 8), (1, 1, 8), Part::Diag),
+        ((2, 1, 9), (1, 1, 8), Part::Diag),
+        false,
+    ),
+    (
+        "the lower triangle and what is above the diagonal of a view two rows up, in steps of 2",
+        (9, 9),
+        ((3, 2, 9), (3, 2, 9), Part::Lower),
+        ((1, 2, 7), (3, 2, 9), Part::UnitUpper),
+        false,
+    ),
+    (
+        "the lower triangle and what is above the diagonal of a view two rows down, in steps of 2",
+        (9, 9),
+        ((1, 2, 7), (1, 2, 7), Part::Lower),
+        ((3, 2, 9), (1, 2, 7), Part::UnitUpper),
+        true,
+    ),
+    (
+        "the lower triangle and what is above the diagonal of a view two rows down, in steps of -2",
+        (11, 11),
+        ((9, -2, 3), (9, -2, 3), Part::Lower),
+        ((11, -2, 5), (9, -2, 3), Part::UnitUpper),
+        false,
+    ),
+    (
+        "the lower triangle and what is above the diagonal of a view two rows up, in steps of -2",
+        (11, 11),
+        ((9, -2, 3), (9, -2, 3), Part::Lower),
+        ((7, -2, 1), (9, -2, 3), Part::UnitUpper),
+        true,
+    ),
+    (
+        "diagonals that cross in an element",
+        (9, 9),
+        ((1, 1, 9), (1, 1, 9), Part::Diag),
+        ((8, -1, 2), (2, 1, 8), Part::Diag),
+        true,
+    ),
+    (
+        "diagonals that cross between elements",
+        (8, 8),
+        ((1, 1, 8), (1, 1, 8), Part::Diag),
+        ((8, -1, 1), (1, 1, 8), Part::Diag),
+        false,
     ),
     (
         "large steps that meet once",
