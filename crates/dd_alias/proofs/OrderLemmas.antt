@@ -11,7 +11,6 @@ use Rattle.dd_alias.specs.declared.line.Line.{Line}
 use Rattle.dd_alias.specs.declared.run.Run.{Run}
 use Rattle.dd_alias.specs.Columns.{high_of, low_of}
 use Rattle.dd_alias.specs.Lines.{AreApartAt, IsBelow, IsWithin, KeepBoth, Reaches, high_at, line_at, low_at}
-use Rattle.dd_alias.specs.Runs.{HasNumber}
 
 -- y is i parts of the way from x to z, of i + k
 abbrev pub IsOnStraight : ℕ → ℕ → ℕ → ℕ → ℕ → Type 0
@@ -54,13 +53,13 @@ high_straight UnitUpper last i k x y z low_x low_y low_z straight =
     one_less i k x y z (low_x (λ e. absurd (cc))) (low_y (λ e. absurd (cc))) (low_z (λ e. absurd (cc))) straight
 high_straight Diag last i k x y z low_x low_y low_z straight = omega (arith, straight)
 
-low_straight : (part : Part) (i k x y z : ℕ) → IsOnStraight i k x y z → low_of part x * k + low_of part z * i ≤ low_of part y * (i + k)
-low_straight All i k x y z straight = omega arith
-low_straight Lower i k x y z straight = omega (arith, straight)
-low_straight Upper i k x y z straight = omega arith
-low_straight UnitLower i k x y z straight = omega (arith, straight)
-low_straight UnitUpper i k x y z straight = omega arith
-low_straight Diag i k x y z straight = omega (arith, straight)
+low_straight : (part : Part) (first i k x y z : ℕ) → IsOnStraight i k x y z → low_of part x first * k + low_of part z first * i ≤ low_of part y first * (i + k)
+low_straight All first i k x y z straight = omega arith
+low_straight Lower first i k x y z straight = omega (arith, straight)
+low_straight Upper first i k x y z straight = omega arith
+low_straight UnitLower first i k x y z straight = omega (arith, straight)
+low_straight UnitUpper first i k x y z straight = omega arith
+low_straight Diag first i k x y z straight = omega (arith, straight)
 
 keeps_order : (i k xp xt xq yp yt yq : ℕ) → 0 < i + k → xt * (i + k) ≤ xp * k + xq * i → yp * k + yq * i ≤ yt * (i + k) → xp < yp → xq < yq → xt < yt
 keeps_order i k xp xt xq yp yt yq some x y one other =
@@ -74,20 +73,23 @@ pub record AreWithin (a b : Band) (t : ℕ) : Type 0 where
   pub one : IsWithin a t
   pub other : IsWithin b t
 
-below_on : (a b : Band) (p i k : ℕ) → 0 < i + k → AreWithin a b p → AreWithin a b (p + i) → AreWithin a b (p + i + k) → IsBelow a b p → IsBelow a b (p + i + k) → IsBelow a b (p + i)
-below_on a b p i k some at_p at_t at_q one other =
-    keeps_order i k (high_at a p) (high_at a (p + i)) (high_at a (p + i + k)) (low_at b p) (low_at b (p + i)) (low_at b (p + i + k)) some (high_straight a.part a.last i k (line_at a.diagonal p) (line_at a.diagonal (p + i)) (line_at a.diagonal (p + i + k)) at_p.one.low at_t.one.low at_q.one.low (line_straight a.diagonal p i k at_q.one.reaches)) (low_straight b.part i k (line_at b.diagonal p) (line_at b.diagonal (p + i)) (line_at b.diagonal (p + i + k)) (line_straight b.diagonal p i k at_q.other.reaches)) one other
+turned : {a b : Band} {t : ℕ} → AreWithin a b t → AreWithin b a t
+turned at = record { one = at.other; other = at.one }
 
-below_from : (a b : Band) (p i k t q : ℕ) → t ≡ p + i → q ≡ p + i + k → AreWithin a b p → AreWithin a b t → AreWithin a b q → IsBelow a b p → IsBelow a b q → IsBelow a b t
-below_from a b p zero k t q is_t is_q at_p at_t at_q one other =
+below_on : (a b : Band) (rows : Run) (p i k : ℕ) → 0 < i + k → AreWithin a b p → AreWithin a b (p + i) → AreWithin a b (p + i + k) → IsBelow a b rows p → IsBelow a b rows (p + i + k) → IsBelow a b rows (p + i)
+below_on a b rows p i k some at_p at_t at_q one other =
+    keeps_order i k (high_at a rows p) (high_at a rows (p + i)) (high_at a rows (p + i + k)) (low_at b rows p) (low_at b rows (p + i)) (low_at b rows (p + i + k)) some (high_straight a.part rows.limit i k (line_at a.diagonal p) (line_at a.diagonal (p + i)) (line_at a.diagonal (p + i + k)) at_p.one.low at_t.one.low at_q.one.low (line_straight a.diagonal p i k at_q.one.reaches)) (low_straight b.part rows.first i k (line_at b.diagonal p) (line_at b.diagonal (p + i)) (line_at b.diagonal (p + i + k)) (line_straight b.diagonal p i k at_q.other.reaches)) one other
+
+below_from : (a b : Band) (rows : Run) (p i k t q : ℕ) → t ≡ p + i → q ≡ p + i + k → AreWithin a b p → AreWithin a b t → AreWithin a b q → IsBelow a b rows p → IsBelow a b rows q → IsBelow a b rows t
+below_from a b rows p zero k t q is_t is_q at_p at_t at_q one other =
     let same : p ≡ t = omega (arith, is_t) in
-    subst (λ (n : ℕ). IsBelow a b n) same one
-below_from a b p (suc i) k t q is_t is_q at_p at_t at_q one other =
-    subst (λ (n : ℕ). IsBelow a b n) (sym is_t) (below_on a b p (suc i) k (omega arith) at_p (subst (λ (n : ℕ). AreWithin a b n) is_t at_t) (subst (λ (n : ℕ). AreWithin a b n) is_q at_q) one (subst (λ (n : ℕ). IsBelow a b n) is_q other))
+    subst (λ (n : ℕ). IsBelow a b rows n) same one
+below_from a b rows p (suc i) k t q is_t is_q at_p at_t at_q one other =
+    subst (λ (n : ℕ). IsBelow a b rows n) (sym is_t) (below_on a b rows p (suc i) k (omega arith) at_p (subst (λ (n : ℕ). AreWithin a b n) is_t at_t) (subst (λ (n : ℕ). AreWithin a b n) is_q at_q) one (subst (λ (n : ℕ). IsBelow a b rows n) is_q other))
 
-below_between : (a b : Band) (p t q : ℕ) → p ≤ t → t ≤ q → AreWithin a b p → AreWithin a b t → AreWithin a b q → IsBelow a b p → IsBelow a b q → IsBelow a b t
-below_between a b p t q low high at_p at_t at_q one other =
-    below_from a b p (t - p) (q - t) t q (omega arith) (omega arith) at_p at_t at_q one other
+below_between : (a b : Band) (rows : Run) (p t q : ℕ) → p ≤ t → t ≤ q → AreWithin a b p → AreWithin a b t → AreWithin a b q → IsBelow a b rows p → IsBelow a b rows q → IsBelow a b rows t
+below_between a b rows p t q low high at_p at_t at_q one other =
+    below_from a b rows p (t - p) (q - t) t q (omega arith) (omega arith) at_p at_t at_q one other
 
 high_kept : (part : Part) (r d last : ℕ) → r ≤ last → keeps part r d ≡ true → r ≤ high_of part d last
 high_kept All r d last small kept = small
@@ -97,32 +99,26 @@ high_kept UnitLower r d last small kept = small
 high_kept UnitUpper r d last small kept = grind (arith, nat_tests)
 high_kept Diag r d last small kept = grind (arith, nat_tests)
 
-low_kept : (part : Part) (r d : ℕ) → 1 ≤ r → keeps part r d ≡ true → low_of part d ≤ r
-low_kept All r d some kept = some
-low_kept Lower r d some kept = grind (arith, nat_tests)
-low_kept Upper r d some kept = some
-low_kept UnitLower r d some kept = grind (arith, nat_tests)
-low_kept UnitUpper r d some kept = some
-low_kept Diag r d some kept = grind (arith, nat_tests)
+low_kept : (part : Part) (r d first : ℕ) → first ≤ r → keeps part r d ≡ true → low_of part d first ≤ r
+low_kept All r d first some kept = some
+low_kept Lower r d first some kept = grind (arith, nat_tests)
+low_kept Upper r d first some kept = some
+low_kept UnitLower r d first some kept = grind (arith, nat_tests)
+low_kept UnitUpper r d first some kept = some
+low_kept Diag r d first some kept = grind (arith, nat_tests)
 
--- the rows are among those of both bands
-abbrev pub AreRowsOf : Band → Band → Run → Type 0
-AreRowsOf a b rows = (r : ℕ) → HasNumber rows r → (1 ≤ r) × (r ≤ a.last) × (r ≤ b.last)
-
-below_none : (a b : Band) (rows : Run) (t : ℕ) → AreRowsOf a b rows → IsBelow a b t → ¬ KeepBoth a b rows t
-below_none a b rows t of below both =
-    let row = of both.0 both.1 in
-    let high = high_kept a.part both.0 (line_at a.diagonal t) a.last row.1 both.2 in
-    let low = low_kept b.part both.0 (line_at b.diagonal t) row.0 both.3 in
+below_none : (a b : Band) (rows : Run) (t : ℕ) → IsBelow a b rows t → ¬ KeepBoth a b rows t
+below_none a b rows t below both =
+    let number = both.1 in
+    let high = high_kept a.part both.0 (line_at a.diagonal t) rows.limit number.1 both.2 in
+    let low = low_kept b.part both.0 (line_at b.diagonal t) rows.first (omega (arith, number.0.1)) both.3 in
     omega (arith, high, low, below)
 
 -- bands that are apart at two turns keep no common row between
-pub apart_between : (a b : Band) (rows : Run) (p t q : ℕ) → AreRowsOf a b rows → p ≤ t → t ≤ q → AreWithin a b p → AreWithin a b t → AreWithin a b q → AreApartAt a b p q → ¬ KeepBoth a b rows t
-apart_between a b rows p t q of low high at_p at_t at_q apart both = ⊎_elim
-    (λ below. below_none a b rows t of (below_between a b p t q low high at_p at_t at_q below.0 below.1) both)
-    (λ below.
-    let turned : AreRowsOf b a rows = λ r has. let row = of r has in (row.0, row.2, row.1) in
-    below_none b a rows t turned (below_between b a p t q low high (record { one = at_p.other; other = at_p.one }) (record { one = at_t.other; other = at_t.one }) (record { one = at_q.other; other = at_q.one }) below.0 below.1) (both.0, both.1, both.3, both.2))
+pub apart_between : (a b : Band) (rows : Run) (p t q : ℕ) → p ≤ t → t ≤ q → AreWithin a b p → AreWithin a b t → AreWithin a b q → AreApartAt a b rows p q → ¬ KeepBoth a b rows t
+apart_between a b rows p t q low high at_p at_t at_q apart both = ⊎_elim
+    (λ below. below_none a b rows t (below_between a b rows p t q low high at_p at_t at_q below.0 below.1) both)
+    (λ below. below_none b a rows t (below_between b a rows p t q low high (turned at_p) (turned at_t) (turned at_q) below.0 below.1) (both.0, both.1, both.3, both.2))
     apart
 
 -- what holds at a turn holds between the ends, where it doesn't at these nor in the first half

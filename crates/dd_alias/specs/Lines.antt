@@ -9,7 +9,7 @@ use Rattle.dd_alias.specs.declared.line.Line.{Line}
 use Rattle.dd_alias.specs.declared.pattern.Pattern.{Pattern}
 use Rattle.dd_alias.specs.declared.run.Run.{Run}
 use Rattle.dd_alias.specs.Columns.{high_of, low_of}
-use Rattle.dd_alias.specs.Places.{IsAt, IsIn}
+use Rattle.dd_alias.specs.Places.{IsAt}
 use Rattle.dd_alias.specs.Runs.{HasNumber}
 
 -- both spans rise, or both fall
@@ -47,33 +47,31 @@ pub record IsBand (p : Pattern) (cols : Run) (b : Band) : Type 0 where
   pub whole : (p.part ≡ All) ↔ (b.part ≡ All)
   pub facing : IsFacing p b.part
   pub diagonal : IsDiagonal p cols b.diagonal
-  pub last : (x : ℕ) → IsIn p.rows x → x ≤ b.last
-  pub small : b.last < 2 ^ 63
 
 -- the band keeps the row at the turn
 abbrev pub KeepsAt : Band → ℕ → ℕ → Type 0
 KeepsAt b t row = keeps b.part row (line_at b.diagonal t) ≡ true
 
--- the diagonal is at a row of the band
+-- the diagonal is at a row
 pub record IsWithin (b : Band) (t : ℕ) : Type 0 where
   pub reaches : Reaches b.diagonal t
   pub low : b.part ≢ All → 1 ≤ line_at b.diagonal t
-  pub high : b.part ≢ All → line_at b.diagonal t ≤ b.last
-  pub small : b.last < 2 ^ 63
+  pub small : b.part ≢ All → line_at b.diagonal t < 2 ^ 63
 
--- the least row that the band keeps at the turn, and the greatest
-abbrev pub low_at : Band → ℕ → ℕ
-low_at b t = low_of b.part (line_at b.diagonal t)
+-- between which numbers of a run the rows stand that the band keeps at the turn
+abbrev pub low_at : Band → Run → ℕ → ℕ
+low_at b rows t = low_of b.part (line_at b.diagonal t) rows.first
 
-abbrev pub high_at : Band → ℕ → ℕ
-high_at b t = high_of b.part (line_at b.diagonal t) b.last
+abbrev pub high_at : Band → Run → ℕ → ℕ
+high_at b rows t = high_of b.part (line_at b.diagonal t) rows.limit
 
-abbrev pub IsBelow : Band → Band → ℕ → Type 0
-IsBelow a b t = high_at a t < low_at b t
+-- what one band keeps of a run at the turn is below what the other keeps
+abbrev pub IsBelow : Band → Band → Run → ℕ → Type 0
+IsBelow a b rows t = high_at a rows t < low_at b rows t
 
 -- one band is below the other at both turns
-abbrev pub AreApartAt : Band → Band → ℕ → ℕ → Type 0
-AreApartAt a b p q = (IsBelow a b p × IsBelow a b q) ⊎ (IsBelow b a p × IsBelow b a q)
+abbrev pub AreApartAt : Band → Band → Run → ℕ → ℕ → Type 0
+AreApartAt a b rows p q = (IsBelow a b rows p × IsBelow a b rows q) ⊎ (IsBelow b a rows p × IsBelow b a rows q)
 
 -- both bands keep a row of the run at the turn
 abbrev pub KeepBoth : Band → Band → Run → ℕ → Type 0

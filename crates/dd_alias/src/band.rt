@@ -10,42 +10,44 @@ use crate::columns::{flip, is_whole, kept};
 use crate::interval::Interval;
 use crate::line::Line;
 use crate::pattern::Pattern;
-use crate::place::{bounds, number_at, place_of, quotient, stride};
+use crate::place::{number_at, place_of, quotient, stride};
 use crate::run::Run;
 use dd_views::{Part, Span3};
 
-/// The rows of a pattern by their numbers: those that stand in the part to the diagonal, up to the last one.
+/// The rows of a pattern by their numbers: those that stand in the part to the diagonal.
 #[derive(Clone, Copy, Debug)]
 pub struct Band {
     pub part: Part,
     /// The row whose place is that of the column, for each common column.
     pub diagonal: Line,
-    pub last: u64,
 }
 
 impl Band {
     /// The band of a pattern along some of its columns.
     pub fn of(pattern: &Pattern, cols: &Run) -> Band
         requires pattern { IsPattern pattern.now }
-        requires rows { 0 < pattern.now.rows.count }
         requires cols { (x : ℕ) → HasNumber cols.now x → IsIn pattern.now.cols x }
         ensures { IsBand pattern.now cols.now result }
     {
         Band {
             part: facing(pattern),
             diagonal: diagonal(pattern, cols),
-            last: bounds(&pattern.rows).high,
         }
     }
 
-    /// Between which numbers the rows stand that are kept at a turn, from 0.
-    pub fn rows_at(&self, turn: u64) -> Interval
+    /// Between which of some rows those stand that are kept at a turn, from 0.
+    pub fn rows_at(&self, rows: &Run, turn: u64) -> Interval
         requires { IsWithin self.now turn }
-        ensures rows { (r : ℕ) → 1 ≤ r → r ≤ self.now.last → (KeepsAt self.now turn r ↔ IsBetween result r) }
-        ensures low { result.low ≡ low_at self.now turn }
-        ensures high { result.high ≡ high_at self.now turn }
+        ensures rows { (r : ℕ) → HasNumber rows.now r → (KeepsAt self.now turn r ↔ IsBetween result r) }
+        ensures low { result.low ≡ low_at self.now rows.now turn }
+        ensures high { result.high ≡ high_at self.now rows.now turn }
     {
-        kept(self.part, self.diagonal.number(turn), self.last)
+        kept(
+            self.part,
+            self.diagonal.number(turn),
+            rows.first,
+            rows.limit,
+        )
     }
 }
 

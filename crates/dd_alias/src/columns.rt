@@ -29,23 +29,25 @@ pub fn flip(part: Part) -> Part
     }
 }
 
-/// Between which numbers the rows stand that a part keeps, up to the last one, where the diagonal is at a row.
-pub fn kept(part: Part, diagonal: u64, last: u64) -> Interval
+/// Between which numbers the rows stand that a part keeps, from the first to the last, where the diagonal is at a row.
+pub fn kept(part: Part, diagonal: u64, first: u64, last: u64) -> Interval
     requires low { part ≢ Part.All → 1 ≤ diagonal }
-    requires high { part ≢ Part.All → diagonal ≤ last }
-    requires small { last < 2 ^ 63 }
-    ensures rows { (r : ℕ) → 1 ≤ r → r ≤ last → (keeps part r diagonal ≡ true) ↔ IsBetween result r }
-    ensures low { result.low ≡ low_of part diagonal }
+    requires small { part ≢ Part.All → diagonal < 2 ^ 63 }
+    ensures rows { (r : ℕ) → first ≤ r → r ≤ last → (keeps part r diagonal ≡ true) ↔ IsBetween result r }
+    ensures low { result.low ≡ low_of part diagonal first }
     ensures high { result.high ≡ high_of part diagonal last }
 {
     match part {
-        Part::All => Interval { low: 1, high: last },
+        Part::All => Interval {
+            low: first,
+            high: last,
+        },
         Part::Lower => Interval {
             low: diagonal,
             high: last,
         },
         Part::Upper => Interval {
-            low: 1,
+            low: first,
             high: diagonal,
         },
         Part::UnitLower => Interval {
@@ -53,7 +55,7 @@ pub fn kept(part: Part, diagonal: u64, last: u64) -> Interval
             high: last,
         },
         Part::UnitUpper => Interval {
-            low: 1,
+            low: first,
             high: diagonal - 1,
         },
         Part::Diag => Interval {

@@ -92,9 +92,6 @@ fn meet_in_some(a: &Pattern, b: &Pattern, rows: &Run, cols: &Run) -> bool
     requires cols { AreCommon a.now.cols b.now.cols cols.now }
     ensures { IsTrue result ↔ Meets a.now b.now }
 {
-    if a.rows.count == 0 || b.rows.count == 0 {
-        return false;
-    }
     meet_along(&Band::of(a, cols), &Band::of(b, cols), rows, cols)
 }
 
@@ -102,19 +99,17 @@ fn meet_in_some(a: &Pattern, b: &Pattern, rows: &Run, cols: &Run) -> bool
 fn meet_along(a: &Band, b: &Band, rows: &Run, cols: &Run) -> bool
     requires a { (t : ℕ) → IsTurn cols.now t → IsWithin a.now t }
     requires b { (t : ℕ) → IsTurn cols.now t → IsWithin b.now t }
-    requires rows { (r : ℕ) → HasNumber rows.now r → (1 ≤ r) × (r ≤ a.now.last) × (r ≤ b.now.last) }
     ensures { IsTrue result ↔ ((t : ℕ) × IsTurn cols.now t × KeepBoth a.now b.now rows.now t) }
 {
     meet_between(a, b, rows, 0, cols.count())
 }
 
-/// Whether both bands keep a common row at a turn from `first` on, before `end`. Bounds move evenly from turn to turn,
-/// or not at all: where one band is below the other at the first and at the last turn, so it is between. Else the
-/// question is asked of each half.
+/// Whether both bands keep a common row at a turn from `first` on, before `end`. The bounds of what they keep move evenly
+/// from turn to turn, or not at all: where one band is below the other at the first and at the last turn, so it is
+/// between. Else the question is asked of each half.
 fn meet_between(a: &Band, b: &Band, rows: &Run, first: u64, end: u64) -> bool
     requires a { (t : ℕ) → t < end → IsWithin a.now t }
     requires b { (t : ℕ) → t < end → IsWithin b.now t }
-    requires rows { (r : ℕ) → HasNumber rows.now r → (1 ≤ r) × (r ≤ a.now.last) × (r ≤ b.now.last) }
     ensures { IsTrue result ↔ MeetBetween a.now b.now rows.now first end }
 {
     if first >= end {
@@ -127,7 +122,7 @@ fn meet_between(a: &Band, b: &Band, rows: &Run, first: u64, end: u64) -> bool
     if meet_at(a, b, rows, last) {
         return true;
     }
-    if are_apart_at(a, b, first, last) {
+    if are_apart_at(a, b, rows, first, last) {
         return false;
     }
     let middle = first + (end - first) / 2;
@@ -137,39 +132,38 @@ fn meet_between(a: &Band, b: &Band, rows: &Run, first: u64, end: u64) -> bool
     meet_between(a, b, rows, middle, last)
 }
 
-/// Whether one band is below the other at both of two turns.
-fn are_apart_at(a: &Band, b: &Band, one: u64, other: u64) -> bool
+/// Whether one band is below the other, within some rows, at both of two turns.
+fn are_apart_at(a: &Band, b: &Band, rows: &Run, one: u64, other: u64) -> bool
     requires one_a { IsWithin a.now one }
     requires other_a { IsWithin a.now other }
     requires one_b { IsWithin b.now one }
     requires other_b { IsWithin b.now other }
-    ensures { IsTrue result → AreApartAt a.now b.now one other }
+    ensures { IsTrue result → AreApartAt a.now b.now rows.now one other }
 {
-    if is_below(a, b, one) {
-        is_below(a, b, other)
+    if is_below(a, b, rows, one) {
+        is_below(a, b, rows, other)
     } else {
-        is_below(b, a, one) && is_below(b, a, other)
+        is_below(b, a, rows, one) && is_below(b, a, rows, other)
     }
 }
 
-/// Whether a band ends below the first row of the other at a turn.
-fn is_below(a: &Band, b: &Band, turn: u64) -> bool
+/// Whether what a band keeps of some rows at a turn is below what the other keeps.
+fn is_below(a: &Band, b: &Band, rows: &Run, turn: u64) -> bool
     requires a { IsWithin a.now turn }
     requires b { IsWithin b.now turn }
-    ensures { IsTrue result ↔ IsBelow a.now b.now turn }
+    ensures { IsTrue result ↔ IsBelow a.now b.now rows.now turn }
 {
-    a.rows_at(turn).high < b.rows_at(turn).low
+    a.rows_at(rows, turn).high < b.rows_at(rows, turn).low
 }
 
 /// Whether both bands keep a common row at a turn.
 fn meet_at(a: &Band, b: &Band, rows: &Run, turn: u64) -> bool
     requires a { IsWithin a.now turn }
     requires b { IsWithin b.now turn }
-    requires rows { (r : ℕ) → HasNumber rows.now r → (1 ≤ r) × (r ≤ a.now.last) × (r ≤ b.now.last) }
     ensures { IsTrue result ↔ KeepBoth a.now b.now rows.now turn }
 {
-    let of_a = a.rows_at(turn);
-    let of_b = b.rows_at(turn);
+    let of_a = a.rows_at(rows, turn);
+    let of_b = b.rows_at(rows, turn);
     rows.has_between(of_a.low.max(of_b.low), of_a.high.min(of_b.high))
 }
 

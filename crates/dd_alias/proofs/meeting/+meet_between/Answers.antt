@@ -11,7 +11,7 @@ returns-then-are_apart_at t c = (
       let b = c.args.b.now in
       let last : c.args.end - 1 < c.args.end = omega (arith, c.if-first-end.false) in
       let first : c.args.first < c.args.end = omega (arith, c.if-first-end.false) in
-      absurd (apart_between a b c.args.rows.now c.args.first some.0 (c.args.end - 1) c.requires.rows some.1 (omega (arith, some.2)) (record { one = c.requires.a c.args.first first; other = c.requires.b c.args.first first }) (record { one = c.requires.a some.0 some.2; other = c.requires.b some.0 some.2 }) (record { one = c.requires.a (c.args.end - 1) last; other = c.requires.b (c.args.end - 1) last }) (c.are_apart_at.ensures (cc)) some.3)),
+      absurd (apart_between a b c.args.rows.now c.args.first some.0 (c.args.end - 1) some.1 (omega (arith, some.2)) (record { one = c.requires.a c.args.first first; other = c.requires.b c.args.first first }) (record { one = c.requires.a some.0 some.2; other = c.requires.b some.0 some.2 }) (record { one = c.requires.a (c.args.end - 1) last; other = c.requires.b (c.args.end - 1) last }) (c.are_apart_at.ensures (cc)) some.3)),
 )
 
 pub meet_between-requires : goal.meet_between-requires
@@ -19,7 +19,7 @@ meet_between-requires t c = (
   omega (arith, c.if-first-end.false),
   (
     (λ u before. c.requires.a u (omega (arith, before, c.if-first-end.false))),
-    ((λ u before. c.requires.b u (omega (arith, before, c.if-first-end.false))), c.requires.rows),
+    (λ u before. c.requires.b u (omega (arith, before, c.if-first-end.false))),
   ),
 )
 

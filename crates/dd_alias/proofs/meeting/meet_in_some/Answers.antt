@@ -1,7 +1,7 @@
 use Rattle.std.proofs.Common.{ℕ, ◌≤◌, subst}
 use Rattle.dd_alias.specs.Lines.{run_at}
 use Rattle.dd_alias.specs.Patterns.{MeetsIn}
-use Rattle.dd_alias.proofs.PatternLemmas.{both_meet, first_band_at, row_above, second_band_at, within_of}
+use Rattle.dd_alias.proofs.PatternLemmas.{both_meet, first_band_at, second_band_at, within_of}
 use Rattle.dd_alias.proofs.meeting.meet_in_some.Goals as goal
 
 pub of-requires-clause-cols : goal.of-requires-clause-cols
@@ -17,11 +17,6 @@ meet_along-requires-clause-a c = λ t turn.
 pub meet_along-requires-clause-b : goal.meet_along-requires-clause-b
 meet_along-requires-clause-b c = λ t turn.
     within_of c.args.b.now c.args.cols.now c.of-2.result t (second_band_at c.args.a.now c.args.b.now c.args.cols.now c.of-2.result t c.requires.b c.of-2.ensures c.requires.cols turn)
-
-pub meet_along-requires-clause-rows : goal.meet_along-requires-clause-rows
-meet_along-requires-clause-rows c = λ r has.
-    let row = (c.requires.rows r).0 has in
-    (row_above c.args.a.now r c.requires.a row.0, c.of.ensures.last r row.0, c.of-2.ensures.last r row.1)
 
 pub returns : goal.returns
 returns c =
