@@ -1,5 +1,5 @@
 -- The rows that a pattern keeps, by the row on the diagonal of each common column.
-use Rattle.std.specs.Prelude.{◌≡◌, ◌≢◌, ◌⊎◌, ◌↔◌, ℕ, pos, ◌<ℤ◌, ◌+◌, ◌*◌, ◌-◌, ◌^◌, ◌<◌, ◌≤◌, true, false, if◌then◌else◌}
+use Rattle.std.specs.Prelude.{◌≡◌, ◌≢◌, ◌⊎◌, ◌↔◌, ℕ, pos, ◌<ℤ◌, ◌+◌, ◌*◌, ◌-◌, ◌^◌, ◌<◌, ◌≤◌, true, false, unsigned_abs, if◌then◌else◌}
 use Rattle.dd_views.specs.declared.part.Part.{Part}
 use Rattle.dd_views.specs.declared.part.Part.TheVariants.{All}
 use Rattle.dd_views.specs.declared.span3.Span3.{Span3}
@@ -8,7 +8,7 @@ use Rattle.dd_alias.specs.declared.band.Band.{Band}
 use Rattle.dd_alias.specs.declared.line.Line.{Line}
 use Rattle.dd_alias.specs.declared.pattern.Pattern.{Pattern}
 use Rattle.dd_alias.specs.declared.run.Run.{Run}
-use Rattle.dd_alias.specs.Columns.{high_of, low_of}
+use Rattle.dd_alias.specs.Columns.{AreApartBy, high_of, low_of}
 use Rattle.dd_alias.specs.Places.{IsAt}
 use Rattle.dd_alias.specs.Runs.{HasNumber}
 
@@ -47,23 +47,28 @@ pub record IsBand (p : Pattern) (cols : Run) (b : Band) : Type 0 where
   pub whole : (p.part ≡ All) ↔ (b.part ≡ All)
   pub facing : IsFacing p b.part
   pub diagonal : IsDiagonal p cols b.diagonal
+  pub gap : b.gap ≡ unsigned_abs p.rows.step
+  pub wide : b.gap ≤ 2 ^ 63
 
 -- the band keeps the row at the turn
 abbrev pub KeepsAt : Band → ℕ → ℕ → Type 0
 KeepsAt b t row = keeps b.part row (line_at b.diagonal t) ≡ true
 
--- the diagonal is at a row
-pub record IsWithin (b : Band) (t : ℕ) : Type 0 where
+-- the diagonal is at a row, and those of the run are apart from it by the gap
+pub record IsWithin (b : Band) (rows : Run) (t : ℕ) : Type 0 where
   pub reaches : Reaches b.diagonal t
-  pub low : b.part ≢ All → 1 ≤ line_at b.diagonal t
   pub small : b.part ≢ All → line_at b.diagonal t < 2 ^ 63
+  pub gap : 0 < b.gap
+  pub wide : b.gap ≤ 2 ^ 63
+  pub above : (r : ℕ) → HasNumber rows r → 1 ≤ r
+  pub apart : (r : ℕ) → HasNumber rows r → b.part ≢ All → AreApartBy b.gap r (line_at b.diagonal t)
 
 -- between which numbers of a run the rows stand that the band keeps at the turn
 abbrev pub low_at : Band → Run → ℕ → ℕ
-low_at b rows t = low_of b.part (line_at b.diagonal t) rows.first
+low_at b rows t = low_of b.part (line_at b.diagonal t) b.gap rows.first
 
 abbrev pub high_at : Band → Run → ℕ → ℕ
-high_at b rows t = high_of b.part (line_at b.diagonal t) rows.limit
+high_at b rows t = high_of b.part (line_at b.diagonal t) b.gap rows.limit
 
 -- what one band keeps of a run at the turn is below what the other keeps
 abbrev pub IsBelow : Band → Band → Run → ℕ → Type 0

@@ -20,6 +20,8 @@ pub struct Band {
     pub part: Part,
     /// The row whose place is that of the column, for each common column.
     pub diagonal: Line,
+    /// How far a row is from the next.
+    pub gap: u64,
 }
 
 impl Band {
@@ -32,12 +34,13 @@ impl Band {
         Band {
             part: facing(pattern),
             diagonal: diagonal(pattern, cols),
+            gap: stride(&pattern.rows),
         }
     }
 
     /// Between which of some rows those stand that are kept at a turn, from 0.
     pub fn rows_at(&self, rows: &Run, turn: u64) -> Interval
-        requires { IsWithin self.now turn }
+        requires { IsWithin self.now rows.now turn }
         ensures rows { (r : ℕ) → HasNumber rows.now r → (KeepsAt self.now turn r ↔ IsBetween result r) }
         ensures low { result.low ≡ low_at self.now rows.now turn }
         ensures high { result.high ≡ high_at self.now rows.now turn }
@@ -45,6 +48,7 @@ impl Band {
         kept(
             self.part,
             self.diagonal.number(turn),
+            self.gap,
             rows.first,
             rows.limit,
         )

@@ -1,7 +1,7 @@
 //! What a part keeps.
 ghost use Rattle.std.specs.Prelude.{◌≡◌, ◌≢◌, ℕ, ◌≤◌, ◌<◌, ◌^◌, ◌↔◌, IsTrue, true};
 ghost use Rattle.dd_views.specs.IndexList.{keeps};
-ghost use Rattle.dd_alias.specs.Columns.{high_of, low_of};
+ghost use Rattle.dd_alias.specs.Columns.{AreApartBy, high_of, low_of};
 ghost use Rattle.dd_alias.specs.Places.{IsBetween};
 
 use crate::interval::Interval;
@@ -30,12 +30,14 @@ pub fn flip(part: Part) -> Part
 }
 
 /// Between which numbers the rows stand that a part keeps, from the first to the last, where the diagonal is at a row.
-pub fn kept(part: Part, diagonal: u64, first: u64, last: u64) -> Interval
-    requires low { part ≢ Part.All → 1 ≤ diagonal }
+/// Rows that differ, differ by the gap at least.
+pub fn kept(part: Part, diagonal: u64, gap: u64, first: u64, last: u64) -> Interval
     requires small { part ≢ Part.All → diagonal < 2 ^ 63 }
-    ensures rows { (r : ℕ) → first ≤ r → r ≤ last → (keeps part r diagonal ≡ true) ↔ IsBetween result r }
-    ensures low { result.low ≡ low_of part diagonal first }
-    ensures high { result.high ≡ high_of part diagonal last }
+    requires above { 0 < gap }
+    requires gap { gap ≤ 2 ^ 63 }
+    ensures rows { (r : ℕ) → first ≤ r → r ≤ last → 1 ≤ r → (part ≢ Part.All → AreApartBy gap r diagonal) → (keeps part r diagonal ≡ true) ↔ IsBetween result r }
+    ensures low { result.low ≡ low_of part diagonal gap first }
+    ensures high { result.high ≡ high_of part diagonal gap last }
 {
     match part {
         Part::All => Interval {
@@ -51,12 +53,12 @@ pub fn kept(part: Part, diagonal: u64, first: u64, last: u64) -> Interval
             high: diagonal,
         },
         Part::UnitLower => Interval {
-            low: diagonal + 1,
+            low: diagonal + gap,
             high: last,
         },
         Part::UnitUpper => Interval {
             low: first,
-            high: diagonal - 1,
+            high: diagonal.saturating_sub(gap),
         },
         Part::Diag => Interval {
             low: diagonal,

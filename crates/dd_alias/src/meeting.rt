@@ -97,8 +97,8 @@ fn meet_in_some(a: &Pattern, b: &Pattern, rows: &Run, cols: &Run) -> bool
 
 /// Whether both bands keep a common row at a turn of the common columns.
 fn meet_along(a: &Band, b: &Band, rows: &Run, cols: &Run) -> bool
-    requires a { (t : ℕ) → IsTurn cols.now t → IsWithin a.now t }
-    requires b { (t : ℕ) → IsTurn cols.now t → IsWithin b.now t }
+    requires a { (t : ℕ) → IsTurn cols.now t → IsWithin a.now rows.now t }
+    requires b { (t : ℕ) → IsTurn cols.now t → IsWithin b.now rows.now t }
     ensures { IsTrue result ↔ ((t : ℕ) × IsTurn cols.now t × KeepBoth a.now b.now rows.now t) }
 {
     meet_between(a, b, rows, 0, cols.count())
@@ -108,8 +108,8 @@ fn meet_along(a: &Band, b: &Band, rows: &Run, cols: &Run) -> bool
 /// from turn to turn, or not at all: where one band is below the other at the first and at the last turn, so it is
 /// between. Else the question is asked of each half.
 fn meet_between(a: &Band, b: &Band, rows: &Run, first: u64, end: u64) -> bool
-    requires a { (t : ℕ) → t < end → IsWithin a.now t }
-    requires b { (t : ℕ) → t < end → IsWithin b.now t }
+    requires a { (t : ℕ) → t < end → IsWithin a.now rows.now t }
+    requires b { (t : ℕ) → t < end → IsWithin b.now rows.now t }
     ensures { IsTrue result ↔ MeetBetween a.now b.now rows.now first end }
 {
     if first >= end {
@@ -134,10 +134,10 @@ fn meet_between(a: &Band, b: &Band, rows: &Run, first: u64, end: u64) -> bool
 
 /// Whether one band is below the other, within some rows, at both of two turns.
 fn are_apart_at(a: &Band, b: &Band, rows: &Run, one: u64, other: u64) -> bool
-    requires one_a { IsWithin a.now one }
-    requires other_a { IsWithin a.now other }
-    requires one_b { IsWithin b.now one }
-    requires other_b { IsWithin b.now other }
+    requires one_a { IsWithin a.now rows.now one }
+    requires other_a { IsWithin a.now rows.now other }
+    requires one_b { IsWithin b.now rows.now one }
+    requires other_b { IsWithin b.now rows.now other }
     ensures { IsTrue result → AreApartAt a.now b.now rows.now one other }
 {
     if is_below(a, b, rows, one) {
@@ -149,8 +149,8 @@ fn are_apart_at(a: &Band, b: &Band, rows: &Run, one: u64, other: u64) -> bool
 
 /// Whether what a band keeps of some rows at a turn is below what the other keeps.
 fn is_below(a: &Band, b: &Band, rows: &Run, turn: u64) -> bool
-    requires a { IsWithin a.now turn }
-    requires b { IsWithin b.now turn }
+    requires a { IsWithin a.now rows.now turn }
+    requires b { IsWithin b.now rows.now turn }
     ensures { IsTrue result ↔ IsBelow a.now b.now rows.now turn }
 {
     a.rows_at(rows, turn).high < b.rows_at(rows, turn).low
@@ -158,8 +158,8 @@ fn is_below(a: &Band, b: &Band, rows: &Run, turn: u64) -> bool
 
 /// Whether both bands keep a common row at a turn.
 fn meet_at(a: &Band, b: &Band, rows: &Run, turn: u64) -> bool
-    requires a { IsWithin a.now turn }
-    requires b { IsWithin b.now turn }
+    requires a { IsWithin a.now rows.now turn }
+    requires b { IsWithin b.now rows.now turn }
     ensures { IsTrue result ↔ KeepBoth a.now b.now rows.now turn }
 {
     let of_a = a.rows_at(rows, turn);

@@ -94,7 +94,8 @@ pub fn place_of(span: &Span3, number: u64) -> u64
 
 /// The size of the step.
 pub fn stride(span: &Span3) -> u64
-    ensures { result ≡ unsigned_abs span.now.step }
+    ensures exact { result ≡ unsigned_abs span.now.step }
+    ensures small { result ≤ 2 ^ 63 }
 {
     span.step.unsigned_abs()
 }

@@ -19,7 +19,7 @@ type Piece = (Steps, Steps, Part);
 /// A name, the size of an array, two views of it and whether they overlap.
 type Row = (&'static str, Size, Piece, Piece, bool);
 
-const ROWS: [Row; 23] = [
+const ROWS: [Row; 27] = [
     (
         "the lower triangle and what is above the diagonal",
         (3, 3),
@@ -152,6 +152,34 @@ const ROWS: [Row; 23] = [
         ((1, 1, 8), (1, 1, 8), Part::Diag),
         ((8, -1, 1), (1, 1, 8), Part::Diag),
         false,
+    ),
+    (
+        "an upper triangle and a block that has its corner on the diagonal",
+        (9, 9),
+        ((1, 1, 9), (1, 1, 9), Part::Upper),
+        ((5, 1, 9), (1, 1, 5), Part::All),
+        true,
+    ),
+    (
+        "an upper triangle and a block below the diagonal",
+        (9, 9),
+        ((1, 1, 9), (1, 1, 9), Part::Upper),
+        ((6, 1, 9), (1, 1, 5), Part::All),
+        false,
+    ),
+    (
+        "what is below a diagonal and what is above the next, in steps of 2",
+        (11, 7),
+        ((1, 2, 7), (1, 2, 7), Part::UnitLower),
+        ((3, 2, 9), (1, 2, 7), Part::UnitUpper),
+        false,
+    ),
+    (
+        "what is below a diagonal and what is above the next but one, in steps of 2",
+        (11, 7),
+        ((1, 2, 7), (1, 2, 7), Part::UnitLower),
+        ((5, 2, 11), (1, 2, 7), Part::UnitUpper),
+        true,
     ),
     (
         "large steps that meet once",

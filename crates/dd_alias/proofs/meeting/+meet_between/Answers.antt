@@ -10,8 +10,7 @@ returns-then-are_apart_at t c = (
       let a = c.args.a.now in
       let b = c.args.b.now in
       let last : c.args.end - 1 < c.args.end = omega (arith, c.if-first-end.false) in
-      let first : c.args.first < c.args.end = omega (arith, c.if-first-end.false) in
-      absurd (apart_between a b c.args.rows.now c.args.first some.0 (c.args.end - 1) some.1 (omega (arith, some.2)) (record { one = c.requires.a c.args.first first; other = c.requires.b c.args.first first }) (record { one = c.requires.a some.0 some.2; other = c.requires.b some.0 some.2 }) (record { one = c.requires.a (c.args.end - 1) last; other = c.requires.b (c.args.end - 1) last }) (c.are_apart_at.ensures (cc)) some.3)),
+      absurd (apart_between a b c.args.rows.now c.args.first some.0 (c.args.end - 1) some.1 (omega (arith, some.2)) (record { one = c.requires.a some.0 some.2; other = c.requires.b some.0 some.2 }) (record { one = c.requires.a (c.args.end - 1) last; other = c.requires.b (c.args.end - 1) last }) (c.are_apart_at.ensures (cc)) some.3)),
 )
 
 pub meet_between-requires : goal.meet_between-requires
@@ -20,6 +19,39 @@ meet_between-requires t c = (
   (
     (λ u before. c.requires.a u (omega (arith, before, c.if-first-end.false))),
     (λ u before. c.requires.b u (omega (arith, before, c.if-first-end.false))),
+  ),
+)
+
+pub meet_at-requires-clause-a : goal.meet_at-requires-clause-a
+meet_at-requires-clause-a t c = c.requires.a c.args.first (omega (arith, c.if-first-end.false))
+
+pub meet_at-requires-clause-b : goal.meet_at-requires-clause-b
+meet_at-requires-clause-b t c = c.requires.b c.args.first (omega (arith, c.if-first-end.false))
+
+pub meet_at-requires-2-clause-a : goal.meet_at-requires-2-clause-a
+meet_at-requires-2-clause-a t c = c.requires.a (c.args.end - 1) (omega (arith, c.if-first-end.false))
+
+pub meet_at-requires-2-clause-b : goal.meet_at-requires-2-clause-b
+meet_at-requires-2-clause-b t c = c.requires.b (c.args.end - 1) (omega (arith, c.if-first-end.false))
+
+pub are_apart_at-requires-clause-one_a : goal.are_apart_at-requires-clause-one_a
+are_apart_at-requires-clause-one_a t c = c.requires.a c.args.first (omega (arith, c.if-first-end.false))
+
+pub are_apart_at-requires-clause-one_b : goal.are_apart_at-requires-clause-one_b
+are_apart_at-requires-clause-one_b t c = c.requires.b c.args.first (omega (arith, c.if-first-end.false))
+
+pub are_apart_at-requires-clause-other_a : goal.are_apart_at-requires-clause-other_a
+are_apart_at-requires-clause-other_a t c = c.requires.a (c.args.end - 1) (omega (arith, c.if-first-end.false))
+
+pub are_apart_at-requires-clause-other_b : goal.are_apart_at-requires-clause-other_b
+are_apart_at-requires-clause-other_b t c = c.requires.b (c.args.end - 1) (omega (arith, c.if-first-end.false))
+
+pub meet_between-requires-2 : goal.meet_between-requires-2
+meet_between-requires-2 t c = (
+  omega (arith, c.if-first-end.false),
+  (
+    (λ u before. c.requires.a u (omega (arith, before))),
+    (λ u before. c.requires.b u (omega (arith, before))),
   ),
 )
 

@@ -12,11 +12,11 @@ of-requires-2-clause-cols c = λ x has. ((c.requires.cols x).0 has).1
 
 pub meet_along-requires-clause-a : goal.meet_along-requires-clause-a
 meet_along-requires-clause-a c = λ t turn.
-    within_of c.args.a.now c.args.cols.now c.of.result t (first_band_at c.args.a.now c.args.b.now c.args.cols.now c.of.result t c.requires.a c.of.ensures c.requires.cols turn)
+    within_of c.args.a.now c.args.cols.now c.args.rows.now c.of.result t (first_band_at c.args.a.now c.args.b.now c.args.cols.now c.of.result t c.requires.a c.of.ensures c.requires.cols turn) (λ r has. ((c.requires.rows r).0 has).0)
 
 pub meet_along-requires-clause-b : goal.meet_along-requires-clause-b
 meet_along-requires-clause-b c = λ t turn.
-    within_of c.args.b.now c.args.cols.now c.of-2.result t (second_band_at c.args.a.now c.args.b.now c.args.cols.now c.of-2.result t c.requires.b c.of-2.ensures c.requires.cols turn)
+    within_of c.args.b.now c.args.cols.now c.args.rows.now c.of-2.result t (second_band_at c.args.a.now c.args.b.now c.args.cols.now c.of-2.result t c.requires.b c.of-2.ensures c.requires.cols turn) (λ r has. ((c.requires.rows r).0 has).1)
 
 pub returns : goal.returns
 returns c =
