@@ -3,16 +3,13 @@ use Rattle.std.proofs.Common.{◌≡◌, ◌≢◌, ◌⊎◌, ℕ, ◌≤◌, �
 use Rattle.dd_views.specs.declared.part.Part.{Part}
 use Rattle.dd_views.specs.declared.part.Part.TheVariants.{All, Lower, Upper, UnitLower, UnitUpper, Diag}
 use Rattle.dd_views.specs.IndexList.{keeps}
-use Rattle.dd_views.proofs.SignedLemmas.{size_pos}
 use Rattle.dd_alias.specs.declared.band.Band.{Band}
 use Rattle.dd_alias.specs.declared.pattern.Pattern.{Pattern}
 use Rattle.dd_alias.specs.declared.run.Run.{Run}
-use Rattle.dd_alias.specs.Columns.{AreApartBy}
-use Rattle.dd_alias.specs.Lines.{IsBand, IsTurn, IsWithin, KeepBoth, KeepsAt, line_at, run_at}
+use Rattle.dd_alias.specs.Lines.{AreWays, IsBand, IsTurn, IsWithin, KeepBoth, KeepsAt, line_at, run_at}
 use Rattle.dd_alias.specs.Patterns.{AreCommon, HasElement, IsPattern, MeetsIn}
 use Rattle.dd_alias.specs.Places.{IsIn}
-use Rattle.dd_alias.specs.Runs.{HasNumber}
-use Rattle.dd_alias.proofs.BandLemmas.{apart_by}
+use Rattle.dd_alias.proofs.GapLemmas.{kept_within, up_small}
 use Rattle.dd_alias.proofs.LineLemmas.{number_above, number_small}
 
 part_cases : (q : Part) → (q ≡ All) ⊎ (q ≢ All)
@@ -43,16 +40,16 @@ row_above p x pattern there = omega (arith, number_above p.rows there.0 pattern.
 diagonal_at : (p : Pattern) (cols : Run) (b : Band) (t : ℕ) → IsBandAt p cols b t → b.part ≢ All → IsIn p.rows (line_at b.diagonal t)
 diagonal_at p cols b t at part = (at.col.0, at.band.diagonal.at t at.col.0 (λ all. part (at.band.whole.0 all)) at.turn at.col.1)
 
-pub within_of : (p : Pattern) (cols rows : Run) (b : Band) (t : ℕ) → IsBandAt p cols b t → ((r : ℕ) → HasNumber rows r → IsIn p.rows r) → IsWithin b rows t
-within_of p cols rows b t at of = record {
-  reaches = at.band.diagonal.reaches t at.turn;
-  small = λ part. row_small p (line_at b.diagonal t) at.pattern (diagonal_at p cols b t at part);
-  gap = omega (arith, at.band.gap, size_pos p.rows.step at.pattern.rows.2.steps);
-  wide = at.band.wide;
-  above = λ r has. row_above p r at.pattern (of r has);
-  apart = λ r has part.
-      subst (λ (n : ℕ). AreApartBy n r (line_at b.diagonal t)) (sym at.band.gap) (apart_by p.rows r (line_at b.diagonal t) at.pattern.rows (of r has) (diagonal_at p cols b t at part));
-}
+pub within_of : (p : Pattern) (cols rows : Run) (b : Band) (t : ℕ) → IsBandAt p cols b t → AreWays b.part b.diagonal rows b.ways → IsWithin b rows t
+within_of p cols rows b t at ways =
+    let reaches = at.band.diagonal.reaches t at.turn in
+    record {
+      reaches = reaches;
+      small = λ part. row_small p (line_at b.diagonal t) at.pattern (diagonal_at p cols b t at part);
+      up = up_small b.part b.diagonal rows b.ways ways;
+      kept = λ r has.
+          kept_within b.part b.diagonal rows b.ways t r ways reaches (λ part. row_above p (line_at b.diagonal t) at.pattern (diagonal_at p cols b t at part)) has;
+    }
 
 element_kept : (p : Pattern) (cols : Run) (b : Band) (t r : ℕ) → IsBandAt p cols b t → HasElement p r (run_at cols t) → KeepsAt b t r
 element_kept p cols b t r at e = ⊎_elim

@@ -1,7 +1,7 @@
 //! Whether two views share an element.
 ghost use Rattle.std.specs.Prelude.{◌≡◌, ℕ, ◌≤◌, ◌<◌, ◌↔◌, IsTrue};
 ghost use Rattle.dd_views.specs.Views.{IsView};
-ghost use Rattle.dd_alias.specs.Lines.{AreApartAt, IsBelow, IsTurn, IsWithin, KeepBoth, MeetBetween};
+ghost use Rattle.dd_alias.specs.Lines.{AreApartAt, IsBelow, IsTurn, IsWithin, KeepBoth, MeetBetween, StaysBelow};
 ghost use Rattle.dd_alias.specs.Overlap.{Overlaps};
 ghost use Rattle.dd_alias.specs.Patterns.{AreCommon, IsPattern, IsSolid, Meets, pattern_of};
 ghost use Rattle.dd_alias.specs.Runs.{HasNumber};
@@ -92,7 +92,12 @@ fn meet_in_some(a: &Pattern, b: &Pattern, rows: &Run, cols: &Run) -> bool
     requires cols { AreCommon a.now.cols b.now.cols cols.now }
     ensures { IsTrue result ↔ Meets a.now b.now }
 {
-    meet_along(&Band::of(a, cols), &Band::of(b, cols), rows, cols)
+    meet_along(
+        &Band::of(a, rows, cols),
+        &Band::of(b, rows, cols),
+        rows,
+        cols,
+    )
 }
 
 /// Whether both bands keep a common row at a turn of the common columns.
@@ -132,7 +137,7 @@ fn meet_between(a: &Band, b: &Band, rows: &Run, first: u64, end: u64) -> bool
     meet_between(a, b, rows, middle, last)
 }
 
-/// Whether one band is below the other, within some rows, at both of two turns.
+/// Whether at both of two turns one band is below the other, or one keeps none of some rows.
 fn are_apart_at(a: &Band, b: &Band, rows: &Run, one: u64, other: u64) -> bool
     requires one_a { IsWithin a.now rows.now one }
     requires other_a { IsWithin a.now rows.now other }
@@ -140,11 +145,21 @@ fn are_apart_at(a: &Band, b: &Band, rows: &Run, one: u64, other: u64) -> bool
     requires other_b { IsWithin b.now rows.now other }
     ensures { IsTrue result → AreApartAt a.now b.now rows.now one other }
 {
-    if is_below(a, b, rows, one) {
-        is_below(a, b, rows, other)
-    } else {
-        is_below(b, a, rows, one) && is_below(b, a, rows, other)
-    }
+    stays_below(a, b, rows, one, other)
+        || stays_below(b, a, rows, one, other)
+        || stays_below(a, a, rows, one, other)
+        || stays_below(b, b, rows, one, other)
+}
+
+/// Whether one band is below the other at both of two turns.
+fn stays_below(a: &Band, b: &Band, rows: &Run, one: u64, other: u64) -> bool
+    requires one_a { IsWithin a.now rows.now one }
+    requires other_a { IsWithin a.now rows.now other }
+    requires one_b { IsWithin b.now rows.now one }
+    requires other_b { IsWithin b.now rows.now other }
+    ensures { IsTrue result ↔ StaysBelow a.now b.now rows.now one other }
+{
+    is_below(a, b, rows, one) && is_below(a, b, rows, other)
 }
 
 /// Whether what a band keeps of some rows at a turn is below what the other keeps.

@@ -94,8 +94,7 @@ pub fn place_of(span: &Span3, number: u64) -> u64
 
 /// The size of the step.
 pub fn stride(span: &Span3) -> u64
-    ensures exact { result ≡ unsigned_abs span.now.step }
-    ensures small { result ≤ 2 ^ 63 }
+    ensures { result ≡ unsigned_abs span.now.step }
 {
     span.step.unsigned_abs()
 }

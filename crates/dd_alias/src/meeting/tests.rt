@@ -19,7 +19,7 @@ type Piece = (Steps, Steps, Part);
 /// A name, the size of an array, two views of it and whether they overlap.
 type Row = (&'static str, Size, Piece, Piece, bool);
 
-const ROWS: [Row; 27] = [
+const ROWS: [Row; 31] = [
     (
         "the lower triangle and what is above the diagonal",
         (3, 3),
@@ -179,6 +179,34 @@ const ROWS: [Row; 27] = [
         (11, 7),
         ((1, 2, 7), (1, 2, 7), Part::UnitLower),
         ((5, 2, 11), (1, 2, 7), Part::UnitUpper),
+        true,
+    ),
+    (
+        "a diagonal and the even rows of the odd columns",
+        (9, 9),
+        ((1, 1, 9), (1, 1, 9), Part::Diag),
+        ((2, 2, 8), (1, 2, 9), Part::All),
+        false,
+    ),
+    (
+        "a diagonal and every fourth row of the odd columns",
+        (9, 9),
+        ((1, 1, 9), (1, 1, 9), Part::Diag),
+        ((1, 4, 9), (1, 2, 9), Part::All),
+        true,
+    ),
+    (
+        "a lower triangle in steps of 2 and what is above a diagonal a row down, in steps of 3",
+        (13, 12),
+        ((1, 2, 11), (1, 2, 11), Part::Lower),
+        ((4, 3, 13), (3, 3, 12), Part::Upper),
+        false,
+    ),
+    (
+        "a lower triangle in steps of 2 and what is above a diagonal four rows down, in steps of 3",
+        (16, 12),
+        ((1, 2, 11), (1, 2, 11), Part::Lower),
+        ((7, 3, 16), (3, 3, 12), Part::Upper),
         true,
     ),
     (

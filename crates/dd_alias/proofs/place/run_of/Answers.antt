@@ -11,8 +11,8 @@ returns-then-span-eq0 c = λ x. (
 
 pub returns-then-span-gt0 : goal.returns-then-span-gt0
 returns-then-span-gt0 c = λ x.
-    run_of_up c.args.span.now _ _ _ x c.from-first.ensures c.stride-stride.ensures.exact c.from.ensures (omega (arith, ints, c.if-span-gt0.true)) c.requires (omega arith)
+    run_of_up c.args.span.now _ _ _ x c.from-first.ensures c.stride-stride.ensures c.from.ensures (omega (arith, ints, c.if-span-gt0.true)) c.requires (omega arith)
 
 pub returns : goal.returns
 returns c = λ x.
-    run_of_down c.args.span.now _ _ _ x c.from-first.ensures c.stride-stride.ensures.exact c.from.ensures (is_down c.args.span.now c.requires (λ up. absurd (omega (arith, ints, c.if-span-gt0.false, up)))) c.requires (omega arith)
+    run_of_down c.args.span.now _ _ _ x c.from-first.ensures c.stride-stride.ensures c.from.ensures (is_down c.args.span.now c.requires (λ up. absurd (omega (arith, ints, c.if-span-gt0.false, up)))) c.requires (omega arith)
