@@ -60,8 +60,8 @@ impl Band {
     }
 }
 
-/// How far the next of some rows are from the diagonal, where a part doesn't keep what is nearer. All turns move the line,
-/// and all steps the rows, by multiples of the gap.
+/// How far the next of some rows are from the diagonal, where a part doesn't keep what is nearer. All turns move the
+/// line, and all steps the rows, by multiples of the gap.
 fn ways(part: Part, diagonal: &Line, rows: &Run) -> Ways
     ensures { AreWays part diagonal.now rows.now result }
 {

@@ -1,5 +1,5 @@
 //! Least solutions of congruences.
-ghost use Rattle.std.specs.Prelude.{◌≡◌, ℕ, ◌+◌, ◌*◌, ◌^◌, ◌<◌, ◌↔◌, MatchOption};
+ghost use Rattle.std.specs.Prelude.{◌≡◌, ℕ, ◌+◌, ◌*◌, ◌%◌, ◌^◌, ◌<◌, ◌↔◌, MatchOption};
 ghost use Rattle.dd_alias.specs.Congruence.{HasNoCommon, IsFar, IsLeast, IsLeastCommon, IsMultiple, IsOnWay, IsSame};
 
 /// The least number that makes a multiple of `step` of `number`, when it is added.
@@ -8,7 +8,7 @@ pub fn complement(number: u64, step: u64) -> u64
     ensures small { result < step }
     ensures exact { (x : ℕ) → IsMultiple step (number + x) ↔ IsOnWay result step x }
 {
-    let rest = number % step;
+    let rest = remainder(number, step);
     if rest == 0 { 0 } else { step - rest }
 }
 
@@ -59,7 +59,7 @@ pub fn common_divisor(a: u64, b: u64) -> u64
     if a == 0 {
         return b;
     }
-    common_divisor(b % a, a)
+    common_divisor(remainder(b, a), a)
 }
 
 /// The least number that leads from one number to another one, or some gaps from it, when it is added.
@@ -71,6 +71,17 @@ pub fn lead(from: u64, to: u64, gap: u64) -> u64
     if from >= to {
         complement(from - to, gap)
     } else {
-        (to - from) % gap
+        remainder(to - from, gap)
     }
+}
+
+/// A remainder. Most steps are 1, and a test is faster than a division.
+fn remainder(number: u64, divisor: u64) -> u64
+    requires { 0 < divisor }
+    ensures { result ≡ number % divisor }
+{
+    if divisor == 1 {
+        return 0;
+    }
+    number % divisor
 }

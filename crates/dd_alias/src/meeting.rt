@@ -109,9 +109,9 @@ fn meet_along(a: &Band, b: &Band, rows: &Run, cols: &Run) -> bool
     meet_between(a, b, rows, 0, cols.count())
 }
 
-/// Whether both bands keep a common row at a turn from `first` on, before `end`. The bounds of what they keep move evenly
-/// from turn to turn, or not at all: where one band is below the other at the first and at the last turn, so it is
-/// between. Else the question is asked of each half.
+/// Whether both bands keep a common row at a turn from `first` on, before `end`. The bounds of what they keep move
+/// evenly from turn to turn, or not at all: where one band is below the other at the first and at the last turn, so
+/// it is between. Else the question is asked of each half.
 fn meet_between(a: &Band, b: &Band, rows: &Run, first: u64, end: u64) -> bool
     requires a { (t : ℕ) → t < end → IsWithin a.now rows.now t }
     requires b { (t : ℕ) → t < end → IsWithin b.now rows.now t }
