@@ -23,13 +23,13 @@
 //! Views whose least and greatest rows or columns keep them apart are refused by these alone, and so are whole views in
 //! steps of 1 accepted. Else the cost is that of four Euclidean algorithms, two of them mostly of a step or two, and then
 //! some products, and seldom a division, for the first and the last common column, or row where these are fewer. That
-//! decides where both views are whole, where diagonals are parallel, and where parts are apart or share a row in one of
-//! the two. Else each half of what is between is asked the same, one before the other, until a shared element is found:
-//! parts that cross take about as many steps as halvings.
+//! decides where both views are whole, mostly where diagonals are parallel, and where parts are apart or share a row in
+//! one of the two. Else each half of what is between is asked the same, one before the other, until a shared element is
+//! found: parts that cross take about as many steps as halvings.
 //!
-//! Inside, `congruence` finds least solutions and divisors, `run` has numbers in steps and `shared` what two runs share; `place`
-//! goes from a number of a span to its place and back; `columns` has the rows that a part keeps; `pattern` is a view
-//! without its array, `line` the row on the diagonal, and `band` what a pattern keeps to it; `meeting` joins them, and
+//! Inside, `congruence` finds least solutions and divisors, `run` has numbers in steps and `shared` what two runs share;
+//! `place` goes from a number of a span to its place and back; `columns` has the rows that a part keeps; `pattern` is a
+//! view without its array, `line` the row on the diagonal, and `band` what a pattern keeps to it; `meeting` joins them, and
 //! `conflicts` and `dependencies` go through accesses and tasks. Definitions other than those of `specs/Overlap.antt`,
 //! `specs/Shapes.antt` and `specs/Dependencies.antt` are cited by private contracts alone; what a conflict is stands
 //! in dd_blocks.
