@@ -8,5 +8,7 @@ pub mod SharedLemmas
 pub mod PlaceLemmas
 pub mod BandLemmas
 pub mod LineLemmas
+pub mod GapLemmas
+pub mod OrderLemmas
 pub mod PatternLemmas
 pub mod MeetingLemmas

@@ -123,7 +123,7 @@ unlike rows cols x q t way i k turned other = ⊎_elim
     (λ down. numbers_down rows i (t * q) k down.0 turned.small_rows turned.one.low (places_up cols x q t way i k down.1 turned.small_cols turned.whole turned.one turned.other) (omega (arith, turned.square, turned.other.high)))
     other
 
-number_small : (s : Span3) (i : ℕ) → IsSmallSpan s → 1 ≤ i → i ≤ s.count → number_at_place s i < 2 ^ 63
+pub number_small : (s : Span3) (i : ℕ) → IsSmallSpan s → 1 ≤ i → i ≤ s.count → number_at_place s i < 2 ^ 63
 number_small s i small low high =
     let inside = small.2.within (i - 1) (omega arith) in
     let size = size_up (number s (i - 1)) (omega (arith, ints, inside.0)) in

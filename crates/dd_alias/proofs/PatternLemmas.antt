@@ -1,15 +1,16 @@
 -- What a pattern has, by its band.
-use Rattle.std.proofs.Common.{◌≡◌, ◌≢◌, ◌⊎◌, ℕ, ◌≤◌, ◌↔◌, true, inl, inr, ⊎_elim, refl, sym, subst, arith}
+use Rattle.std.proofs.Common.{◌≡◌, ◌≢◌, ◌⊎◌, ℕ, ◌≤◌, ◌↔◌, ◌<◌, ◌^◌, true, inl, inr, ⊎_elim, refl, sym, subst, arith}
 use Rattle.dd_views.specs.declared.part.Part.{Part}
 use Rattle.dd_views.specs.declared.part.Part.TheVariants.{All, Lower, Upper, UnitLower, UnitUpper, Diag}
 use Rattle.dd_views.specs.IndexList.{keeps}
 use Rattle.dd_alias.specs.declared.band.Band.{Band}
 use Rattle.dd_alias.specs.declared.pattern.Pattern.{Pattern}
 use Rattle.dd_alias.specs.declared.run.Run.{Run}
-use Rattle.dd_alias.specs.Lines.{IsBand, IsTurn, IsWithin, KeepBoth, KeepsAt, line_at, run_at}
+use Rattle.dd_alias.specs.Lines.{AreWays, IsBand, IsTurn, IsWithin, KeepBoth, KeepsAt, line_at, run_at}
 use Rattle.dd_alias.specs.Patterns.{AreCommon, HasElement, IsPattern, MeetsIn}
 use Rattle.dd_alias.specs.Places.{IsIn}
-use Rattle.dd_alias.proofs.LineLemmas.{number_above}
+use Rattle.dd_alias.proofs.GapLemmas.{kept_within, up_small}
+use Rattle.dd_alias.proofs.LineLemmas.{number_above, number_small}
 
 part_cases : (q : Part) → (q ≡ All) ⊎ (q ≢ All)
 part_cases All = inl refl
@@ -29,20 +30,26 @@ pub record IsBandAt (p : Pattern) (cols : Run) (b : Band) (t : ℕ) : Type 0 whe
   pub turn : IsTurn cols t
   pub col : IsIn p.cols (run_at cols t)
 
-pub row_above : (p : Pattern) (x : ℕ) → IsPattern p → IsIn p.rows x → 1 ≤ x
+row_small : (p : Pattern) (x : ℕ) → IsPattern p → IsIn p.rows x → x < 2 ^ 63
+row_small p x pattern there = omega (arith, number_small p.rows there.0 pattern.rows there.1.low there.1.high, there.1.number)
+
+row_above : (p : Pattern) (x : ℕ) → IsPattern p → IsIn p.rows x → 1 ≤ x
 row_above p x pattern there = omega (arith, number_above p.rows there.0 pattern.rows there.1.low there.1.high, there.1.number)
 
 -- where the part isn't the whole, the diagonal is at a row
 diagonal_at : (p : Pattern) (cols : Run) (b : Band) (t : ℕ) → IsBandAt p cols b t → b.part ≢ All → IsIn p.rows (line_at b.diagonal t)
 diagonal_at p cols b t at part = (at.col.0, at.band.diagonal.at t at.col.0 (λ all. part (at.band.whole.0 all)) at.turn at.col.1)
 
-pub within_of : (p : Pattern) (cols : Run) (b : Band) (t : ℕ) → IsBandAt p cols b t → IsWithin b t
-within_of p cols b t at = record {
-  reaches = at.band.diagonal.reaches t at.turn;
-  low = λ part. row_above p (line_at b.diagonal t) at.pattern (diagonal_at p cols b t at part);
-  high = λ part. at.band.last (line_at b.diagonal t) (diagonal_at p cols b t at part);
-  small = at.band.small;
-}
+pub within_of : (p : Pattern) (cols rows : Run) (b : Band) (t : ℕ) → IsBandAt p cols b t → AreWays b.part b.diagonal rows b.ways → IsWithin b rows t
+within_of p cols rows b t at ways =
+    let reaches = at.band.diagonal.reaches t at.turn in
+    record {
+      reaches = reaches;
+      small = λ part. row_small p (line_at b.diagonal t) at.pattern (diagonal_at p cols b t at part);
+      up = up_small b.part b.diagonal rows b.ways ways;
+      kept = λ r has.
+          kept_within b.part b.diagonal rows b.ways t r ways reaches (λ part. row_above p (line_at b.diagonal t) at.pattern (diagonal_at p cols b t at part)) has;
+    }
 
 element_kept : (p : Pattern) (cols : Run) (b : Band) (t r : ℕ) → IsBandAt p cols b t → HasElement p r (run_at cols t) → KeepsAt b t r
 element_kept p cols b t r at e = ⊎_elim

@@ -28,3 +28,7 @@ pub record IsLeastCommon (a b common : ℕ) : Type 0 where
 -- the common multiples of two numbers within 64 bits are 0 alone
 abbrev pub HasNoCommon : ℕ → ℕ → Type 0
 HasNoCommon a b = (x : ℕ) → IsMultiple a x → IsMultiple b x → x < 2 ^ 64 → x ≡ 0
+
+-- both numbers are some times the gap apart
+abbrev pub IsSame : ℕ → ℕ → ℕ → Type 0
+IsSame gap x y = (m : ℕ) × (n : ℕ) × (x + m * gap ≡ y + n * gap)

@@ -6,4 +6,5 @@ pub mod Congruence
 pub mod Runs
 pub mod Places
 pub mod Patterns
+pub mod Columns
 pub mod Lines

@@ -1,50 +1,87 @@
 //! The rows that a pattern keeps in one common column after another.
 ghost use Rattle.std.specs.Prelude.{◌≡◌, ℕ, ◌*◌, ◌/◌, ◌-◌, ◌^◌, ◌<◌, ◌≤◌, ◌↔◌, ◌≢◌, pos, MatchBool, min, unsigned_abs};
 ghost use Rattle.dd_views.specs.Span.{IsSmallSpan};
-ghost use Rattle.dd_alias.specs.Lines.{AreAlike, AreUnlike, IsBand, IsDiagonal, IsFacing, IsWithin, KeepsAt};
+ghost use Rattle.dd_alias.specs.Congruence.{IsMultiple};
+ghost use Rattle.dd_alias.specs.Lines.{AreAlike, AreUnlike, AreWays, IsBand, IsDiagonal, IsFacing, IsWithin, KeepsAt, high_at, low_at};
 ghost use Rattle.dd_alias.specs.Patterns.{IsPattern};
 ghost use Rattle.dd_alias.specs.Places.{IsBetween, IsIn};
 ghost use Rattle.dd_alias.specs.Runs.{HasNumber};
 
-use crate::columns::{flip, is_whole, kept};
-use crate::interval::Interval;
+use crate::columns::{beyond, flip, is_whole, kept};
+use crate::congruence::{common_divisor, complement, lead};
+use crate::interval::{Interval, Ways};
 use crate::line::Line;
 use crate::pattern::Pattern;
-use crate::place::{bounds, number_at, place_of, quotient, stride};
+use crate::place::{number_at, place_of, quotient, stride};
 use crate::run::Run;
 use dd_views::{Part, Span3};
 
-/// The rows of a pattern by their numbers: those that stand in the part to the diagonal, up to the last one.
+/// The rows of a pattern by their numbers: those that stand in the part to the diagonal.
 #[derive(Clone, Copy, Debug)]
 pub struct Band {
     pub part: Part,
     /// The row whose place is that of the column, for each common column.
     pub diagonal: Line,
-    pub last: u64,
+    /// How far the next common rows are from the diagonal. They are as far in each column.
+    pub ways: Ways,
 }
 
 impl Band {
-    /// The band of a pattern along some of its columns.
-    pub fn of(pattern: &Pattern, cols: &Run) -> Band
+    /// The band of a pattern along some of its rows and columns.
+    pub fn of(pattern: &Pattern, rows: &Run, cols: &Run) -> Band
         requires pattern { IsPattern pattern.now }
-        requires rows { 0 < pattern.now.rows.count }
         requires cols { (x : ℕ) → HasNumber cols.now x → IsIn pattern.now.cols x }
-        ensures { IsBand pattern.now cols.now result }
+        ensures band { IsBand pattern.now cols.now result }
+        ensures ways { AreWays result.part result.diagonal rows.now result.ways }
     {
+        let part = facing(pattern);
+        let diagonal = diagonal(pattern, cols);
         Band {
-            part: facing(pattern),
-            diagonal: diagonal(pattern, cols),
-            last: bounds(&pattern.rows).high,
+            part,
+            diagonal,
+            ways: ways(part, &diagonal, rows),
         }
     }
 
-    /// Between which numbers the rows stand that are kept at a turn, from 0.
-    pub fn rows_at(&self, turn: u64) -> Interval
-        requires { IsWithin self.now turn }
-        ensures { (r : ℕ) → 1 ≤ r → r ≤ self.now.last → (KeepsAt self.now turn r ↔ IsBetween result r) }
+    /// Between which of some rows those stand that are kept at a turn, from 0.
+    pub fn rows_at(&self, rows: &Run, turn: u64) -> Interval
+        requires { IsWithin self.now rows.now turn }
+        ensures rows { (r : ℕ) → HasNumber rows.now r → (KeepsAt self.now turn r ↔ IsBetween result r) }
+        ensures low { result.low ≡ low_at self.now rows.now turn }
+        ensures high { result.high ≡ high_at self.now rows.now turn }
     {
-        kept(self.part, self.diagonal.number(turn), self.last)
+        kept(
+            self.part,
+            self.diagonal.number(turn),
+            self.ways,
+            rows.first,
+            rows.limit,
+        )
     }
+}
+
+/// How far the next of some rows are from the diagonal, where a part doesn't keep what is nearer. All turns move the
+/// line, and all steps the rows, by multiples of the gap.
+fn ways(part: Part, diagonal: &Line, rows: &Run) -> Ways
+    ensures { AreWays part diagonal.now rows.now result }
+{
+    let gap = gap(diagonal, rows);
+    let up = lead(diagonal.first, rows.first, gap);
+    Ways {
+        up: beyond(part, up, gap),
+        down: beyond(part, complement(up, gap), gap),
+    }
+}
+
+/// What the strides of a line and of some rows are multiples of: 1, where it would be too large to be of use.
+fn gap(diagonal: &Line, rows: &Run) -> u64
+    ensures above { 0 < result }
+    ensures small { result < 2 ^ 63 }
+    ensures line { IsMultiple result diagonal.now.stride }
+    ensures rows { IsMultiple result rows.now.stride }
+{
+    let gap = common_divisor(diagonal.stride, rows.stride);
+    if gap < 1 << 63 { gap } else { 1 }
 }
 
 /// The part that keeps by the numbers of rows what the pattern's keeps by their places.

@@ -1,9 +1,9 @@
 //! What a part keeps.
 ghost use Rattle.std.specs.Prelude.{◌≡◌, ◌≢◌, ℕ, ◌≤◌, ◌<◌, ◌^◌, ◌↔◌, IsTrue, true};
 ghost use Rattle.dd_views.specs.IndexList.{keeps};
-ghost use Rattle.dd_alias.specs.Places.{IsBetween};
+ghost use Rattle.dd_alias.specs.Columns.{beyond_of, high_of, low_of};
 
-use crate::interval::Interval;
+use crate::interval::{Interval, Ways};
 use dd_views::Part;
 
 /// Whether the part is the whole.
@@ -28,34 +28,41 @@ pub fn flip(part: Part) -> Part
     }
 }
 
-/// Between which numbers the rows stand that a part keeps, up to the last one, where the diagonal is at a row.
-pub fn kept(part: Part, diagonal: u64, last: u64) -> Interval
-    requires low { part ≢ Part.All → 1 ≤ diagonal }
-    requires high { part ≢ Part.All → diagonal ≤ last }
-    requires small { last < 2 ^ 63 }
-    ensures { (r : ℕ) → 1 ≤ r → r ≤ last → (keeps part r diagonal ≡ true) ↔ IsBetween result r }
+/// Between which numbers the rows stand that a part keeps, from the first to the last, where the diagonal is at a row,
+/// and the next ones are so far up and down from it.
+pub fn kept(part: Part, diagonal: u64, ways: Ways, first: u64, last: u64) -> Interval
+    requires small { part ≢ Part.All → diagonal < 2 ^ 63 }
+    requires up { ways.up ≤ 2 ^ 63 }
+    ensures low { result.low ≡ low_of part diagonal ways.up first }
+    ensures high { result.high ≡ high_of part diagonal ways.down last }
 {
     match part {
-        Part::All => Interval { low: 1, high: last },
-        Part::Lower => Interval {
-            low: diagonal,
+        Part::All => Interval {
+            low: first,
             high: last,
         },
-        Part::Upper => Interval {
-            low: 1,
-            high: diagonal,
-        },
-        Part::UnitLower => Interval {
-            low: diagonal + 1,
+        Part::Lower | Part::UnitLower => Interval {
+            low: diagonal + ways.up,
             high: last,
         },
-        Part::UnitUpper => Interval {
-            low: 1,
-            high: diagonal - 1,
+        Part::Upper | Part::UnitUpper => Interval {
+            low: first,
+            high: diagonal.saturating_sub(ways.down),
         },
         Part::Diag => Interval {
-            low: diagonal,
-            high: diagonal,
+            low: diagonal + ways.up,
+            high: diagonal.saturating_sub(ways.down),
         },
+    }
+}
+
+/// How far it is from the diagonal to the next row that a part may keep, where the next row or the diagonal itself is so
+/// far from it, and the one behind by the gap farther.
+pub fn beyond(part: Part, way: u64, gap: u64) -> u64
+    ensures { result ≡ beyond_of part way gap }
+{
+    match part {
+        Part::UnitLower | Part::UnitUpper => { if way == 0 { gap } else { way } }
+        _ => way,
     }
 }

@@ -1,6 +1,6 @@
 //! Least solutions of congruences.
-ghost use Rattle.std.specs.Prelude.{◌≡◌, ℕ, ◌+◌, ◌*◌, ◌^◌, ◌<◌, ◌↔◌, MatchOption};
-ghost use Rattle.dd_alias.specs.Congruence.{HasNoCommon, IsFar, IsLeast, IsLeastCommon, IsMultiple, IsOnWay};
+ghost use Rattle.std.specs.Prelude.{◌≡◌, ℕ, ◌+◌, ◌*◌, ◌%◌, ◌^◌, ◌<◌, ◌↔◌, MatchOption};
+ghost use Rattle.dd_alias.specs.Congruence.{HasNoCommon, IsFar, IsLeast, IsLeastCommon, IsMultiple, IsOnWay, IsSame};
 
 /// The least number that makes a multiple of `step` of `number`, when it is added.
 pub fn complement(number: u64, step: u64) -> u64
@@ -8,7 +8,7 @@ pub fn complement(number: u64, step: u64) -> u64
     ensures small { result < step }
     ensures exact { (x : ℕ) → IsMultiple step (number + x) ↔ IsOnWay result step x }
 {
-    let rest = number % step;
+    let rest = remainder(number, step);
     if rest == 0 { 0 } else { step - rest }
 }
 
@@ -47,4 +47,41 @@ pub fn least_common(a: u64, b: u64) -> Option<u64>
         return None;
     };
     (turns * a).checked_add(a)
+}
+
+/// The greatest number that both are multiples of.
+pub fn common_divisor(a: u64, b: u64) -> u64
+    requires { 0 < b }
+    ensures above { 0 < result }
+    ensures of_a { IsMultiple result a }
+    ensures of_b { IsMultiple result b }
+{
+    if a == 0 {
+        return b;
+    }
+    common_divisor(remainder(b, a), a)
+}
+
+/// The least number that leads from one number to another one, or some gaps from it, when it is added.
+pub fn lead(from: u64, to: u64, gap: u64) -> u64
+    requires { 0 < gap }
+    ensures small { result < gap }
+    ensures leads { IsSame gap (from + result) to }
+{
+    if from >= to {
+        complement(from - to, gap)
+    } else {
+        remainder(to - from, gap)
+    }
+}
+
+/// A remainder. Most steps are 1, and a test is faster than a division.
+fn remainder(number: u64, divisor: u64) -> u64
+    requires { 0 < divisor }
+    ensures { result ≡ number % divisor }
+{
+    if divisor == 1 {
+        return 0;
+    }
+    number % divisor
 }

@@ -15,17 +15,21 @@
 //! The rows of both views are numbers in steps, and so are those that they have in common: the first of these is the
 //! least solution of two congruences, and their step is the least common multiple of both. So it is with the columns.
 //! A column of a part keeps rows that stand one after the other, from the diagonal or up to it. The row on the diagonal
-//! moves by as much from each common column to the next, so in a common column the question is whether a common row
-//! lies between four numbers, which are had by a product each.
+//! moves by as much from each common column to the next, and the common rows next to it are as far from it in each, by the
+//! greatest common divisor of how it moves and of their step. So in a common column the question is whether a common row
+//! lies between four numbers, which are had by a product each and move evenly: where one part ends below the other in the
+//! first and in the last common column, so it does in each between.
 //!
 //! Views whose least and greatest rows or columns keep them apart are refused by these alone, and so are whole views in
-//! steps of 1 accepted. Else the cost is that of two Euclidean algorithms, and then some products, and seldom a division,
-//! for each common column, or each common row where these are fewer. It ends at the first column with a shared element:
-//! that is the first one, where both views are whole.
+//! steps of 1 accepted. Else the cost is that of four Euclidean algorithms, two of them mostly of a step or two, and then
+//! some products, and seldom a division, for the first and the last common column, or row where these are fewer. That
+//! decides where both views are whole, mostly where diagonals are parallel, and where parts are apart or share a row in
+//! one of the two. Else each half of what is between is asked the same, one before the other, until a shared element is
+//! found: parts that cross take about as many steps as halvings.
 //!
-//! Inside, `congruence` finds least solutions, `run` has numbers in steps and `shared` what two runs share; `place`
-//! goes from a number of a span to its place and back; `columns` has the rows that a part keeps; `pattern` is a view
-//! without its array, `line` the row on the diagonal, and `band` what a pattern keeps to it; `meeting` joins them, and
+//! Inside, `congruence` finds least solutions and divisors, `run` has numbers in steps and `shared` what two runs share;
+//! `place` goes from a number of a span to its place and back; `columns` has the rows that a part keeps; `pattern` is a
+//! view without its array, `line` the row on the diagonal, and `band` what a pattern keeps to it; `meeting` joins them, and
 //! `conflicts` and `dependencies` go through accesses and tasks. Definitions other than those of `specs/Overlap.antt`,
 //! `specs/Shapes.antt` and `specs/Dependencies.antt` are cited by private contracts alone; what a conflict is stands
 //! in dd_blocks.

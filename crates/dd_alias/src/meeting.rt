@@ -1,7 +1,7 @@
 //! Whether two views share an element.
-ghost use Rattle.std.specs.Prelude.{◌≡◌, ℕ, ◌≤◌, ◌↔◌, IsTrue};
+ghost use Rattle.std.specs.Prelude.{◌≡◌, ℕ, ◌≤◌, ◌<◌, ◌↔◌, IsTrue};
 ghost use Rattle.dd_views.specs.Views.{IsView};
-ghost use Rattle.dd_alias.specs.Lines.{IsTurn, IsWithin, KeepBoth};
+ghost use Rattle.dd_alias.specs.Lines.{AreApartAt, IsBelow, IsTurn, IsWithin, KeepBoth, MeetBetween, StaysBelow};
 ghost use Rattle.dd_alias.specs.Overlap.{Overlaps};
 ghost use Rattle.dd_alias.specs.Patterns.{AreCommon, IsPattern, IsSolid, Meets, pattern_of};
 ghost use Rattle.dd_alias.specs.Runs.{HasNumber};
@@ -92,36 +92,93 @@ fn meet_in_some(a: &Pattern, b: &Pattern, rows: &Run, cols: &Run) -> bool
     requires cols { AreCommon a.now.cols b.now.cols cols.now }
     ensures { IsTrue result ↔ Meets a.now b.now }
 {
-    if a.rows.count == 0 || b.rows.count == 0 {
-        return false;
-    }
-    meet_along(&Band::of(a, cols), &Band::of(b, cols), rows, cols)
+    meet_along(
+        &Band::of(a, rows, cols),
+        &Band::of(b, rows, cols),
+        rows,
+        cols,
+    )
 }
 
 /// Whether both bands keep a common row at a turn of the common columns.
 fn meet_along(a: &Band, b: &Band, rows: &Run, cols: &Run) -> bool
-    requires a { (t : ℕ) → IsTurn cols.now t → IsWithin a.now t }
-    requires b { (t : ℕ) → IsTurn cols.now t → IsWithin b.now t }
-    requires rows { (r : ℕ) → HasNumber rows.now r → (1 ≤ r) × (r ≤ a.now.last) × (r ≤ b.now.last) }
+    requires a { (t : ℕ) → IsTurn cols.now t → IsWithin a.now rows.now t }
+    requires b { (t : ℕ) → IsTurn cols.now t → IsWithin b.now rows.now t }
     ensures { IsTrue result ↔ ((t : ℕ) × IsTurn cols.now t × KeepBoth a.now b.now rows.now t) }
 {
-    for turn in 0..cols.count() {
-        if meet_at(a, b, rows, turn) {
-            return true;
-        }
+    meet_between(a, b, rows, 0, cols.count())
+}
+
+/// Whether both bands keep a common row at a turn from `first` on, before `end`. The bounds of what they keep move
+/// evenly from turn to turn, or not at all: where one band is below the other at the first and at the last turn, so
+/// it is between. Else the question is asked of each half.
+fn meet_between(a: &Band, b: &Band, rows: &Run, first: u64, end: u64) -> bool
+    requires a { (t : ℕ) → t < end → IsWithin a.now rows.now t }
+    requires b { (t : ℕ) → t < end → IsWithin b.now rows.now t }
+    ensures { IsTrue result ↔ MeetBetween a.now b.now rows.now first end }
+{
+    if first >= end {
+        return false;
     }
-    false
+    let last = end - 1;
+    if meet_at(a, b, rows, first) {
+        return true;
+    }
+    if meet_at(a, b, rows, last) {
+        return true;
+    }
+    if are_apart_at(a, b, rows, first, last) {
+        return false;
+    }
+    let middle = first + (end - first) / 2;
+    if meet_between(a, b, rows, first + 1, middle) {
+        return true;
+    }
+    meet_between(a, b, rows, middle, last)
+}
+
+/// Whether at both of two turns one band is below the other, or one keeps none of some rows.
+fn are_apart_at(a: &Band, b: &Band, rows: &Run, one: u64, other: u64) -> bool
+    requires one_a { IsWithin a.now rows.now one }
+    requires other_a { IsWithin a.now rows.now other }
+    requires one_b { IsWithin b.now rows.now one }
+    requires other_b { IsWithin b.now rows.now other }
+    ensures { IsTrue result → AreApartAt a.now b.now rows.now one other }
+{
+    stays_below(a, b, rows, one, other)
+        || stays_below(b, a, rows, one, other)
+        || stays_below(a, a, rows, one, other)
+        || stays_below(b, b, rows, one, other)
+}
+
+/// Whether one band is below the other at both of two turns.
+fn stays_below(a: &Band, b: &Band, rows: &Run, one: u64, other: u64) -> bool
+    requires one_a { IsWithin a.now rows.now one }
+    requires other_a { IsWithin a.now rows.now other }
+    requires one_b { IsWithin b.now rows.now one }
+    requires other_b { IsWithin b.now rows.now other }
+    ensures { IsTrue result ↔ StaysBelow a.now b.now rows.now one other }
+{
+    is_below(a, b, rows, one) && is_below(a, b, rows, other)
+}
+
+/// Whether what a band keeps of some rows at a turn is below what the other keeps.
+fn is_below(a: &Band, b: &Band, rows: &Run, turn: u64) -> bool
+    requires a { IsWithin a.now rows.now turn }
+    requires b { IsWithin b.now rows.now turn }
+    ensures { IsTrue result ↔ IsBelow a.now b.now rows.now turn }
+{
+    a.rows_at(rows, turn).high < b.rows_at(rows, turn).low
 }
 
 /// Whether both bands keep a common row at a turn.
 fn meet_at(a: &Band, b: &Band, rows: &Run, turn: u64) -> bool
-    requires a { IsWithin a.now turn }
-    requires b { IsWithin b.now turn }
-    requires rows { (r : ℕ) → HasNumber rows.now r → (1 ≤ r) × (r ≤ a.now.last) × (r ≤ b.now.last) }
+    requires a { IsWithin a.now rows.now turn }
+    requires b { IsWithin b.now rows.now turn }
     ensures { IsTrue result ↔ KeepBoth a.now b.now rows.now turn }
 {
-    let of_a = a.rows_at(turn);
-    let of_b = b.rows_at(turn);
+    let of_a = a.rows_at(rows, turn);
+    let of_b = b.rows_at(rows, turn);
     rows.has_between(of_a.low.max(of_b.low), of_a.high.min(of_b.high))
 }
 

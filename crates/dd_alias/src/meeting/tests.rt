@@ -19,7 +19,7 @@ type Piece = (Steps, Steps, Part);
 /// A name, the size of an array, two views of it and whether they overlap.
 type Row = (&'static str, Size, Piece, Piece, bool);
 
-const ROWS: [Row; 16] = [
+const ROWS: [Row; 31] = [
     (
         "the lower triangle and what is above the diagonal",
         (3, 3),
@@ -102,6 +102,111 @@ const ROWS: [Row; 16] = [
         (3, 3),
         ((1, 1, 3), (1, 1, 3), Part::Diag),
         ((3, -1, 1), (1, 1, 3), Part::Diag),
+        true,
+    ),
+    (
+        "diagonals beside each other",
+        (9, 8),
+        ((1, 1, 8), (1, 1, 8), Part::Diag),
+        ((2, 1, 9), (1, 1, 8), Part::Diag),
+        false,
+    ),
+    (
+        "the lower triangle and what is above the diagonal of a view two rows up, in steps of 2",
+        (9, 9),
+        ((3, 2, 9), (3, 2, 9), Part::Lower),
+        ((1, 2, 7), (3, 2, 9), Part::UnitUpper),
+        false,
+    ),
+    (
+        "the lower triangle and what is above the diagonal of a view two rows down, in steps of 2",
+        (9, 9),
+        ((1, 2, 7), (1, 2, 7), Part::Lower),
+        ((3, 2, 9), (1, 2, 7), Part::UnitUpper),
+        true,
+    ),
+    (
+        "the lower triangle and what is above the diagonal of a view two rows down, in steps of -2",
+        (11, 11),
+        ((9, -2, 3), (9, -2, 3), Part::Lower),
+        ((11, -2, 5), (9, -2, 3), Part::UnitUpper),
+        false,
+    ),
+    (
+        "the lower triangle and what is above the diagonal of a view two rows up, in steps of -2",
+        (11, 11),
+        ((9, -2, 3), (9, -2, 3), Part::Lower),
+        ((7, -2, 1), (9, -2, 3), Part::UnitUpper),
+        true,
+    ),
+    (
+        "diagonals that cross in an element",
+        (9, 9),
+        ((1, 1, 9), (1, 1, 9), Part::Diag),
+        ((8, -1, 2), (2, 1, 8), Part::Diag),
+        true,
+    ),
+    (
+        "diagonals that cross between elements",
+        (8, 8),
+        ((1, 1, 8), (1, 1, 8), Part::Diag),
+        ((8, -1, 1), (1, 1, 8), Part::Diag),
+        false,
+    ),
+    (
+        "an upper triangle and a block that has its corner on the diagonal",
+        (9, 9),
+        ((1, 1, 9), (1, 1, 9), Part::Upper),
+        ((5, 1, 9), (1, 1, 5), Part::All),
+        true,
+    ),
+    (
+        "an upper triangle and a block below the diagonal",
+        (9, 9),
+        ((1, 1, 9), (1, 1, 9), Part::Upper),
+        ((6, 1, 9), (1, 1, 5), Part::All),
+        false,
+    ),
+    (
+        "what is below a diagonal and what is above the next, in steps of 2",
+        (11, 7),
+        ((1, 2, 7), (1, 2, 7), Part::UnitLower),
+        ((3, 2, 9), (1, 2, 7), Part::UnitUpper),
+        false,
+    ),
+    (
+        "what is below a diagonal and what is above the next but one, in steps of 2",
+        (11, 7),
+        ((1, 2, 7), (1, 2, 7), Part::UnitLower),
+        ((5, 2, 11), (1, 2, 7), Part::UnitUpper),
+        true,
+    ),
+    (
+        "a diagonal and the even rows of the odd columns",
+        (9, 9),
+        ((1, 1, 9), (1, 1, 9), Part::Diag),
+        ((2, 2, 8), (1, 2, 9), Part::All),
+        false,
+    ),
+    (
+        "a diagonal and every fourth row of the odd columns",
+        (9, 9),
+        ((1, 1, 9), (1, 1, 9), Part::Diag),
+        ((1, 4, 9), (1, 2, 9), Part::All),
+        true,
+    ),
+    (
+        "a lower triangle in steps of 2 and what is above a diagonal a row down, in steps of 3",
+        (13, 12),
+        ((1, 2, 11), (1, 2, 11), Part::Lower),
+        ((4, 3, 13), (3, 3, 12), Part::Upper),
+        false,
+    ),
+    (
+        "a lower triangle in steps of 2 and what is above a diagonal four rows down, in steps of 3",
+        (16, 12),
+        ((1, 2, 11), (1, 2, 11), Part::Lower),
+        ((7, 3, 16), (3, 3, 12), Part::Upper),
         true,
     ),
     (

@@ -1,29 +1,16 @@
-use Rattle.std.proofs.Common.{arith, below_more, refl}
+use Rattle.std.proofs.Common.{arith}
 use Rattle.dd_alias.proofs.meeting.meet_along.Goals as goal
 
-pub meet_at-requires-clause-a : goal.meet_at-requires-clause-a
-meet_at-requires-clause-a c =
-    c.requires.a c.loop-turn.turn ((c.count-turn-end.ensures c.loop-turn.turn).0 c.loop-turn-test.true)
+pub meet_between-requires-clause-a : goal.meet_between-requires-clause-a
+meet_between-requires-clause-a c = λ t before. c.requires.a t ((c.count.ensures t).0 before)
 
-pub meet_at-requires-clause-b : goal.meet_at-requires-clause-b
-meet_at-requires-clause-b c =
-    c.requires.b c.loop-turn.turn ((c.count-turn-end.ensures c.loop-turn.turn).0 c.loop-turn-test.true)
-
-pub returns-then-meet_at : goal.returns-then-meet_at
-returns-then-meet_at c = (
-  (λ yes.
-      (c.loop-turn.turn, (c.count-turn-end.ensures c.loop-turn.turn).0 c.loop-turn-test.true, c.if-meet_at.ensures.0 refl)),
-  (λ some. refl),
-)
-
-pub loop-turn-preserved : goal.loop-turn-preserved
-loop-turn-preserved c =
-    below_more _ _ c.loop-turn.invariant (λ both. let e = c.if-meet_at.ensures.1 both in absurd (cc))
+pub meet_between-requires-clause-b : goal.meet_between-requires-clause-b
+meet_between-requires-clause-b c = λ t before. c.requires.b t ((c.count.ensures t).0 before)
 
 pub returns : goal.returns
 returns c = (
-  (λ e. absurd (cc)),
-  (λ some.
-      let before = (c.count-turn-end.ensures some.0).1 some.1 in
-      absurd (c.loop-turn.invariant some.0 (omega (arith, before, c.loop-turn-test.false)) some.2)),
+  (λ yes.
+      let found = c.meet_between.ensures.0 yes in
+      (found.0, (c.count.ensures found.0).0 found.2, found.3)),
+  (λ some. c.meet_between.ensures.1 (some.0, omega arith, (c.count.ensures some.0).1 some.1, some.2)),
 )
