@@ -1,5 +1,5 @@
 -- From one line of a text to the next.
-use Rattle.std.proofs.Common.{◌≡◌, ℕ, ◌+◌, ◌<◌, ◌≤◌, List, [], ◌∷◌, Option, Some, None, Result, Ok, Err, OnOk, length, refl, sym, subst, inl, inr, ◌⊎◌, ap, arith, suc}
+use Rattle.std.proofs.Common.{◌≡◌, ℕ, ◌+◌, ◌<◌, ◌≤◌, List, [], ◌∷◌, Option, Some, None, Result, Ok, Err, OnOk, length, refl, sym, subst, inl, inr, ap, arith, suc}
 use Rattle.std.specs.Option.{option_map}
 use Rattle.dd_script.specs.declared.statement.Statement.{Statement}
 use Rattle.dd_script.specs.Reads.{Reads}

@@ -1,14 +1,12 @@
 -- A task whose arguments are right: what is left to ask of it, and what it leaves.
-use Rattle.std.proofs.Common.{◌≡◌, ◌≢◌, ℕ, ◌<◌, ◌≤◌, ℤ, List, [], ◌∷◌, Option, None, Some, inl, inr, ◌⊎◌, refl, sym, ap, ◌∙◌, subst, arith, true, false, length}
+use Rattle.std.proofs.Common.{◌≡◌, ℕ, ◌≤◌, ℤ, List, Option, None, Some, inl, inr, refl, sym, ap, ◌∙◌, subst, arith}
 use Rattle.std.specs.Prelude.{is_some}
 use Rattle.std.specs.Option.{option_map}
 use Rattle.std.proofs.lemmas.Bool.{false≢true}
 use Rattle.dd_blocks.specs.declared.task_row.TaskRow.{TaskRow}
-use Rattle.dd_blocks.specs.Limits.{text_limit}
 use Rattle.dd_blocks.specs.Tasks.{limit_at}
 use Rattle.dd_blocks.specs.WellFormed.{IsInLine}
 use Rattle.dd_script.specs.declared.piece.Piece.{Piece}
-use Rattle.dd_script.specs.declared.statement.Statement.{Statement}
 use Rattle.dd_script.specs.declared.statement.Statement.TheVariants.{Task}
 use Rattle.dd_check.specs.declared.draft.Draft.{Draft}
 use Rattle.dd_check.specs.declared.opened.Opened.{Opened}
@@ -16,7 +14,7 @@ use Rattle.dd_check.specs.declared.fault.AcceptFault.{AcceptFault}
 use Rattle.dd_check.specs.declared.fault.AcceptFault.TheVariants.{Script, Memory}
 use Rattle.dd_check.specs.declared.fault.Fault.{Fault}
 use Rattle.dd_check.specs.declared.kind.Kind.TheVariants.{BlockTooLarge, TaskTooLarge, TooMany}
-use Rattle.dd_check.specs.Above.{Above, OpenRegion}
+use Rattle.dd_check.specs.Above.{Above}
 use Rattle.dd_check.specs.Chain.{IsFoundOr, place_kinds, size_kinds}
 use Rattle.dd_check.specs.Drafts.{IsSoundDraft, above_of, region_of}
 use Rattle.dd_check.specs.Faults.{AreClear, IsClear, IsFirstOf}

@@ -1,5 +1,5 @@
 -- What the lines above a line leave, and the statement that stands below them finds.
-use Rattle.std.specs.Prelude.{ℕ, ◌+◌, Bool, true, false, cond, codes, nat_eq, List, [], ◌∷◌, ◌++◌, length, Option, None, Some, position}
+use Rattle.std.specs.Prelude.{ℕ, ◌+◌, Bool, true, false, cond, codes, nat_eq, List, [], ◌∷◌, length, Option, None, Some, position}
 use Rattle.std.specs.Str.{bytes_eq}
 use Rattle.dd_causes.specs.Steps.{◌>>=◌}
 use Rattle.dd_blocks.specs.declared.plan.Plan.{Plan}
@@ -10,7 +10,7 @@ use Rattle.dd_blocks.specs.declared.space_row.SpaceRow.{SpaceRow}
 use Rattle.dd_blocks.specs.declared.task_row.TaskRow.{TaskRow}
 use Rattle.dd_blocks.specs.Lives.{regions_run}
 use Rattle.dd_script.specs.declared.statement.Statement.{Statement}
-use Rattle.dd_script.specs.declared.statement.Statement.TheVariants.{Space, Proc, PolicyIs, PlaceIs, Array, Same, Drop, MoveTo, Region, Task, End, Print, Sum, Moved}
+use Rattle.dd_script.specs.declared.statement.Statement.TheVariants.{Space, Proc, PolicyIs, PlaceIs}
 
 -- a region that is open: the line at which it begins, and its tasks so far
 pub record OpenRegion : Type 0 where

@@ -1,5 +1,5 @@
 -- The kinds of fault in the groups in which they are asked, and the answers of what asks them.
-use Rattle.std.specs.Prelude.{◌≡◌, ◌⊎◌, ℕ, Bool, true, false, List, [], ◌∷◌}
+use Rattle.std.specs.Prelude.{◌≡◌, ℕ, Bool, true, false, List, [], ◌∷◌}
 use Rattle.dd_script.specs.declared.statement.Statement.{Statement}
 use Rattle.dd_script.specs.declared.statement.Statement.TheVariants.{Task}
 use Rattle.dd_check.specs.declared.fault.AcceptFault.{AcceptFault}
@@ -8,7 +8,7 @@ use Rattle.dd_check.specs.declared.fault.Fault.{Fault}
 use Rattle.dd_check.specs.declared.kind.Kind.{Kind}
 use Rattle.dd_check.specs.declared.kind.Kind.TheVariants.{UnknownName, NameTaken, LateMachine, NoProc, BadShape, UnknownKernel, ArgCount, BadAccess, BadRange, NotSquare, ShapeMismatch, WrongPlace, TooMany, BlockTooLarge, TaskTooLarge}
 use Rattle.dd_check.specs.Above.{Above}
-use Rattle.dd_check.specs.Faults.{AreClear, IsFirstOf, IsRefused, IsUnread, Plain}
+use Rattle.dd_check.specs.Faults.{IsFirstOf, IsRefused, IsUnread, Plain}
 use Rattle.dd_check.specs.Kinds.{HasLargeBlock}
 
 -- on names, the machine and edges; on a kernel and its arguments; on the views of a task; on where a statement stands; on

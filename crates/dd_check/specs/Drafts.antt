@@ -1,5 +1,5 @@
 -- What a draft stands for, and what it keeps beside the rows so that nothing is counted twice.
-use Rattle.std.specs.Prelude.{◌≡◌, ℕ, ◌+◌, ◌<◌, ◌≤◌, List, map, length, Option, None, Some, sum_by, slice_index_or}
+use Rattle.std.specs.Prelude.{◌≡◌, ℕ, ◌+◌, ◌<◌, ◌≤◌, map, length, Option, None, Some, sum_by, slice_index_or}
 use Rattle.std.specs.Option.{option_map}
 use Rattle.dd_blocks.specs.declared.task_row.TaskRow.{TaskRow}
 use Rattle.dd_blocks.specs.Charges.{access_elements}

@@ -1,5 +1,5 @@
 -- What a statement that may stand there leaves.
-use Rattle.std.specs.Prelude.{◌≡◌, ℕ, suc, nat_eq, cond, true, List, [], ◌∷◌, ◌++◌, length, Option, None, Some, unwrap_or}
+use Rattle.std.specs.Prelude.{◌≡◌, ℕ, suc, nat_eq, cond, List, [], ◌∷◌, ◌++◌, length, Option, None, Some, unwrap_or}
 use Rattle.std.specs.Str.{bytes_eq}
 use Rattle.dd_blocks.specs.declared.array_row.ArrayRow.{ArrayRow}
 use Rattle.dd_blocks.specs.declared.plan.Plan.{Plan}
@@ -7,7 +7,6 @@ use Rattle.dd_blocks.specs.declared.policy.Policy.{Policy}
 use Rattle.dd_blocks.specs.declared.proc_row.ProcRow.{ProcRow}
 use Rattle.dd_blocks.specs.declared.rule.Rule.{Rule}
 use Rattle.dd_blocks.specs.declared.space_row.SpaceRow.{SpaceRow}
-use Rattle.dd_blocks.specs.declared.statement_row.StatementRow.{StatementRow}
 use Rattle.dd_blocks.specs.declared.task_row.TaskRow.{TaskRow}
 use Rattle.dd_blocks.specs.declared.what.What.{What}
 use Rattle.dd_blocks.specs.declared.what.What.TheVariants as what

@@ -1,5 +1,5 @@
 -- The first fault of a text.
-use Rattle.std.specs.Prelude.{◌≡◌, ◌⊎◌, ℕ, ◌+◌, ◌<◌, List, [], ◌∷◌, length, Option, None, Some}
+use Rattle.std.specs.Prelude.{◌≡◌, ◌⊎◌, ℕ, ◌+◌, ◌<◌, List, [], ◌∷◌, length, None, Some}
 use Rattle.dd_tokens.specs.declared.fault.LineFault.TheVariants as unread
 use Rattle.dd_tokens.specs.declared.token.Token.{Token}
 use Rattle.dd_tokens.specs.Lexeme.{lexemes_of}

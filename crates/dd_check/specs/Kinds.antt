@@ -1,8 +1,7 @@
 -- When a kind of fault holds of a statement, over what the lines above leave.
-use Rattle.std.specs.Prelude.{◌≡◌, ◌≢◌, ◌⊎◌, ℕ, suc, ◌+◌, ◌*◌, ◌<◌, ℤ, pos, negsuc, Bool, true, false, ◌&&◌, not, nat_le, nat_lt, cond, List, [], ◌∷◌, map, length, Any, Option, None, Some, sum_by, unwrap_or, is_some, find}
+use Rattle.std.specs.Prelude.{◌≡◌, ◌≢◌, ◌⊎◌, ℕ, suc, ◌+◌, ◌*◌, ◌<◌, ℤ, pos, negsuc, Bool, true, false, ◌&&◌, nat_le, nat_lt, cond, List, [], ◌∷◌, map, length, Any, Option, None, Some, sum_by, unwrap_or, is_some, find}
 use Rattle.std.specs.List.{AllZip}
 use Rattle.dd_kernels.specs.declared.kernel.Kernel.{Kernel}
-use Rattle.dd_kernels.specs.declared.signature.Mode.{Mode}
 use Rattle.dd_kernels.specs.Names.{name_of}
 use Rattle.dd_kernels.specs.Shapes.{ShapesFit}
 use Rattle.dd_kernels.specs.Signatures.{TakesScalar, modes_of}
@@ -20,9 +19,9 @@ use Rattle.dd_blocks.specs.Tasks.{MayBe, limit_at, shapes_in}
 use Rattle.dd_blocks.specs.Touches.{blocks_of, touches_in}
 use Rattle.dd_script.specs.declared.piece.Piece.{Piece}
 use Rattle.dd_script.specs.declared.statement.Statement.{Statement}
-use Rattle.dd_script.specs.declared.statement.Statement.TheVariants.{Space, Proc, PolicyIs, PlaceIs, Array, Same, Drop, MoveTo, Region, Task, End, Print, Sum, Moved}
+use Rattle.dd_script.specs.declared.statement.Statement.TheVariants.{Space, Proc, Array, Same, Drop, MoveTo, Task, End, Print, Sum}
 use Rattle.dd_check.specs.Above.{Above, array_named, is_machine, open_tasks, proc_named, space_named}
-use Rattle.dd_check.specs.Rows.{AreAccesses, IsTask, array_of, grid_of, next_array, shape_of_array}
+use Rattle.dd_check.specs.Rows.{AreAccesses, IsTask, grid_of, next_array, shape_of_array}
 
 -- a space or a live array that is named isn't there
 

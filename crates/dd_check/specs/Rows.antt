@@ -1,7 +1,6 @@
 -- The rows that a statement makes.
-use Rattle.std.specs.Prelude.{◌≡◌, ℕ, ◌+◌, ℤ, pos, List, [], ◌∷◌, map, length, Option, None, Some, unwrap_or, unsigned_abs}
+use Rattle.std.specs.Prelude.{◌≡◌, ℕ, ◌+◌, ℤ, pos, List, [], ◌∷◌, map, length, Option, unwrap_or, unsigned_abs}
 use Rattle.std.specs.List.{AllZip}
-use Rattle.dd_kernels.specs.declared.kernel.Kernel.{Kernel}
 use Rattle.dd_kernels.specs.Names.{name_of}
 use Rattle.dd_views.specs.declared.shape.Shape.{Shape}
 use Rattle.dd_views.specs.Views.{Shows}

@@ -3,7 +3,7 @@ use Rattle.std.proofs.lemmas.Bool.{eqb-true}
 use Rattle.std.proofs.lemmas.List.{nil_from_length}
 use Rattle.dd_blocks.specs.declared.plan.Plan.{Plan}
 use Rattle.dd_blocks.specs.WellFormed.{IsWellFormed}
-use Rattle.dd_check.specs.Above.{Above, settle}
+use Rattle.dd_check.specs.Above.{Above}
 use Rattle.dd_check.specs.Drafts.{above_of}
 use Rattle.dd_check.proofs.ReachingLemmas.{reaches_next, sound_next, text_accepted, text_refused, text_unended}
 use Rattle.dd_check.proofs.WithinLemmas.{well_formed}

@@ -1,4 +1,4 @@
-use Rattle.std.proofs.Common.{◌≡◌, OnOk, IfErr, subst}
+use Rattle.std.proofs.Common.{OnOk, IfErr, subst}
 use Rattle.dd_check.specs.Above.{Above}
 use Rattle.dd_check.specs.Chain.{IsFoundOr}
 use Rattle.dd_check.specs.Drafts.{above_of}

@@ -1,4 +1,4 @@
-use Rattle.std.proofs.Common.{◌≡◌, ◌∙◌, ◌++◌, List, OnOk, IfErr, ap, refl, subst, sym}
+use Rattle.std.proofs.Common.{◌∙◌, ◌++◌, List, OnOk, IfErr, ap, refl, subst, sym}
 use Rattle.dd_script.specs.declared.piece.Piece.{Piece}
 use Rattle.dd_script.specs.declared.statement.Statement.{Statement}
 use Rattle.dd_script.specs.declared.statement.Statement.TheVariants.{Task}

@@ -1,4 +1,4 @@
-use Rattle.std.proofs.Common.{◌≡◌, refl, inl, inr}
+use Rattle.std.proofs.Common.{refl, inl, inr}
 use Rattle.dd_check.specs.declared.fault.AcceptFault.TheVariants.{Script}
 use Rattle.dd_check.specs.declared.kind.Kind.TheVariants.{TooMany, WrongPlace}
 use Rattle.dd_check.specs.Drafts.{above_of}
