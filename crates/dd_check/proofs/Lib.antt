@@ -42,7 +42,6 @@ pub mod FindLemmas
 pub mod GroupLemmas
 pub mod AmountLemmas
 pub mod PieceLemmas
-pub mod BlockViewLemmas
 pub mod TouchedLemmas
 pub mod TouchedPlanLemmas
 pub mod TaskLemmas

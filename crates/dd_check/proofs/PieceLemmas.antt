@@ -1,97 +1,123 @@
--- A piece of an edge as a span, and the pieces in which a span lies.
-use Rattle.std.proofs.Common.{◌≡◌, ℕ, ◌+◌, ◌*◌, ◌-◌, ◌/◌, ◌%◌, ◌<◌, ◌≤◌, ◌↔◌, pos, ◌<ℤ◌, ap, ◌∙◌, arith, unsigned_abs}
-use Rattle.std.proofs.lemmas.Int.{ints}
-use Rattle.std.proofs.lemmas.Nat.{div-add-mod', le-div}
+-- The numbers of a span that lie in one piece of an edge, and the rows of a diagonal.
+use Rattle.std.proofs.Common.{◌≡◌, ◌≢◌, ℕ, ◌+◌, ◌*◌, ◌-◌, ◌/◌, ◌%◌, ◌<◌, ◌≤◌, min, pos, ◌<ℤ◌, ap, sym, ◌∙◌, ⊎_elim, arith, unsigned_abs}
+use Rattle.std.specs.Int.{div_ceil}
 use Rattle.std.proofs.Math.Nat.{div-mul-le_self}
+use Rattle.std.proofs.lemmas.Bool.Decides.{nat_tests}
+use Rattle.std.proofs.lemmas.Nat.{div-add-mod', div-mul-add, mod_below, mul-le}
+use Rattle.dd_views.specs.declared.part.Part.TheVariants.{Diag}
 use Rattle.dd_views.specs.declared.span3.Span3.{Span3}
 use Rattle.dd_views.specs.IndexList.{number_at_place}
 use Rattle.dd_views.specs.Span.{IsSmallSpan, IsSpanIn}
 use Rattle.dd_views.proofs.ElementsLemmas.{number_low}
-use Rattle.dd_alias.specs.Places.{IsIn}
-use Rattle.dd_alias.proofs.PlaceLemmas.{down_at, down_run, up_at, up_run}
-use Rattle.dd_blocks.specs.Grids.{piece_len}
-use Rattle.dd_blocks.proofs.PiecesLemmas.{number_piece, piece_within, place_within}
-use Rattle.dd_check.specs.Pieces.{AreEnds, ArePieces, IsInPiece, IsShortSpan}
+use Rattle.dd_views.proofs.SignedLemmas.{size_pos, step_cases}
+use Rattle.dd_alias.proofs.PlaceLemmas.{down_at, steps_sum, up_at}
+use Rattle.dd_blocks.proofs.PiecesLemmas.{piece_within}
+use Rattle.dd_check.specs.Pieces.{AreKept, IsShortSpan, IsSlice}
 
--- numbers one after the other
-abbrev pub run : ℕ → ℕ → Span3
-run first count = record { first = first; step = pos 1; count = count }
+-- the piece of a number so far beyond another, where there is room for the way in the piece, and where there is not
+stays_up : (index way size : ℕ) → 1 ≤ size → way + index % size < size → (index + way) / size ≡ index / size
+stays_up index way size some fits =
+    let is : index + way ≡ index / size * size + (index % size + way) = omega (arith, div-add-mod' index size) in
+    ap (λ (n : ℕ). n / size) is ∙ div-mul-add (index / size) size (index % size + way) (omega arith)
 
-run_at : (first count i : ℕ) → number_at_place (run first count) i ≡ first + (i - 1)
-run_at first count i = omega arith
+leaves_up : (index way size : ℕ) → 1 ≤ size → size ≤ way + index % size → (index + way) / size ≢ index / size
+leaves_up index way size some far same =
+    let times : (index + way) / size * size ≡ index / size * size = ap (λ (q : ℕ). q * size) same in
+    omega (arith, times, div-add-mod' index size, div-add-mod' (index + way) size, mod_below (index + way) size some, far)
 
-pub run_in : (length first count : ℕ) → 1 ≤ first → first + count ≤ length + 1 → IsSpanIn length (run first count)
-run_in length first count some within = record {
-  steps = λ e. omega (arith, ints, e);
-  within = λ i lt. (omega (arith, ints), omega (arith, ints));
-  few = omega arith;
-}
+stays_down : (index way size : ℕ) → 1 ≤ size → way ≤ index % size → (index - way) / size ≡ index / size
+stays_down index way size some fits =
+    let is : index - way ≡ index / size * size + (index % size - way) = omega (arith, div-add-mod' index size, fits) in
+    ap (λ (n : ℕ). n / size) is ∙ div-mul-add (index / size) size (index % size - way) (omega (arith, mod_below index size some))
 
--- a piece as a span has the rows or columns of the piece
-pub piece_is : (length size piece k : ℕ) → 1 ≤ size → IsIn (run (piece * size + 1) (piece_len length size piece)) (k + 1) ↔ IsInPiece length size piece k
-piece_is length size piece k some = (there, back)
-  where
-    there : IsIn (run (piece * size + 1) (piece_len length size piece)) (k + 1) → IsInPiece length size piece k
-    there at =
-        let is : k ≡ piece * size + (at.0 - 1) = omega (arith, at.1.low, at.1.number, run_at (piece * size + 1) (piece_len length size piece) at.0) in
-        let lt : at.0 - 1 < piece_len length size piece = omega (arith, at.1.low, at.1.high) in
-        (omega (arith, lt, is), ap (λ (n : ℕ). n / size) is ∙ number_piece length size piece (at.0 - 1) lt)
+leaves_down : (index way size : ℕ) → 1 ≤ size → way ≤ index → index % size < way → (index - way) / size ≢ index / size
+leaves_down index way size some within far same =
+    let times : (index - way) / size * size ≡ index / size * size = ap (λ (q : ℕ). q * size) same in
+    omega (arith, times, div-add-mod' index size, div-add-mod' (index - way) size, within, far)
 
-    back : IsInPiece length size piece k → IsIn (run (piece * size + 1) (piece_len length size piece)) (k + 1)
-    back has =
-        let place : k % size < piece_len length size (k / size) = place_within length size k some has.0 in
-        let same : piece_len length size (k / size) ≡ piece_len length size piece = ap (piece_len length size) has.1 in
-        let times : k / size * size ≡ piece * size = ap (λ (q : ℕ). q * size) has.1 in (
-          k % size + 1,
-          record {
-            low = omega arith;
-            high = omega (arith, place, same);
-            number = omega (arith, run_at (piece * size + 1) (piece_len length size piece) (k % size + 1), times, div-add-mod' k size);
-          },
-        )
+-- the numbers behind one of a span, by its way from this one
+behind_up : (s : Span3) (index place i : ℕ) → pos 0 <ℤ s.step → IsSmallSpan s → 1 ≤ place → place ≤ i → i ≤ s.count → index + 1 ≡ number_at_place s place → number_at_place s i - 1 ≡ index + (i - place) * unsigned_abs s.step
+behind_up s index place i up small low le high is =
+    omega (arith, is, up_at s place up small low (omega arith), up_at s i up small (omega arith) high, steps_sum (i - place) (place - 1) (i - 1) (unsigned_abs s.step) (omega arith))
 
--- the ends of a span that rises, and of one that falls
-pub ends_up : (s : Span3) (first way : ℕ) → first ≡ s.first → way ≡ (s.count - 1) * unsigned_abs s.step → pos 0 <ℤ s.step → IsSmallSpan s → 1 ≤ s.count → AreEnds s first (first + way)
-ends_up s first way is_first is_way up small some = record {
-  least = (1, record { low = omega arith; high = some; number = omega (arith, is_first, up_at s 1 up small (omega arith) some) });
-  greatest = (s.count, record { low = some; high = omega arith; number = omega (arith, is_first, is_way, up_at s s.count up small some (omega arith)) });
-  each = λ x at. let has = up_run s x up small (omega arith) at in (omega (arith, is_first, has.0.1), omega (arith, is_first, is_way, has.1));
-}
+behind_down : (s : Span3) (index place i : ℕ) → s.step <ℤ pos 0 → IsSmallSpan s → 1 ≤ place → place ≤ i → i ≤ s.count → index + 1 ≡ number_at_place s place → (number_at_place s i - 1 ≡ index - (i - place) * unsigned_abs s.step) × ((i - place) * unsigned_abs s.step ≤ index)
+behind_down s index place i down small low le high is =
+    let last = number_low small.0 s i small.2 (omega arith) high in
+    let there = down_at s i down small (omega arith) high in
+    let here = down_at s place down small low (omega arith) in
+    let sum = steps_sum (i - place) (place - 1) (i - 1) (unsigned_abs s.step) (omega arith) in
+    (omega (arith, is, here, there, sum, last.0), omega (arith, is, here, there, sum, last.0))
 
-pub ends_down : (s : Span3) (first way : ℕ) → first ≡ s.first → way ≡ (s.count - 1) * unsigned_abs s.step → s.step <ℤ pos 0 → IsSmallSpan s → 1 ≤ s.count → AreEnds s (first - way) first
-ends_down s first way is_first is_way down small some = record {
-  least = (s.count, record { low = some; high = omega arith; number = omega (arith, is_first, is_way, down_at s s.count down small some (omega arith)) });
-  greatest = (1, record { low = omega arith; high = some; number = omega (arith, is_first, down_at s 1 down small (omega arith) some) });
-  each = λ x at. let has = down_run s x down small (omega arith) at in (omega (arith, is_first, is_way, has.0.1), omega (arith, is_first, has.1));
-}
+-- as many steps as there is room for, and no more
+few_steps : (n room stride : ℕ) → n ≤ room / stride → n * stride ≤ room
+few_steps n room stride le = omega (arith, mul-le n stride (room / stride) stride le (omega arith), div-mul-le_self room stride)
 
--- a quotient rises with the number
-quotient_le : (a b n : ℕ) → 1 ≤ n → a ≤ b → a / n ≤ b / n
-quotient_le a b n some le = le-div (a / n) b n some (omega (arith, div-mul-le_self a n))
+many_steps : (n room stride : ℕ) → 0 < stride → room / stride < n → room < n * stride
+many_steps n room stride some lt =
+    omega (arith, mul-le (room / stride + 1) stride n stride (omega arith) (omega arith), div-add-mod' room stride, mod_below room stride some)
 
--- the ends of a span are numbers of the edge
-pub ends_within : (length : ℕ) (s : Span3) (low high : ℕ) → IsSpanIn length s → AreEnds s low high → (1 ≤ low) × (low ≤ high) × (high ≤ length)
-ends_within length s low high span ends =
-    let of_low = number_low length s ends.least.0 span ends.least.1.low ends.least.1.high in
-    let of_high = number_low length s ends.greatest.0 span ends.greatest.1.low ends.greatest.1.high in
-    (omega (arith, of_low.0, ends.least.1.number), (ends.each low ends.least).1, omega (arith, of_high.1, ends.greatest.1.number))
+-- what a walk knows of where it stands: the number behind the index is at the place
+pub record StandsAt (s : Span3) (size index place : ℕ) : Type 0 where
+  pub span : IsShortSpan s
+  pub some : 1 ≤ size
+  pub low : 1 ≤ place
+  pub high : place ≤ s.count
+  pub number : index + 1 ≡ number_at_place s place
 
-pub pieces_by : (s : Span3) (size low high : ℕ) → 1 ≤ size → IsShortSpan s → AreEnds s low high → ArePieces s size ((low - 1) / size) ((high - 1) / size + 1)
-pieces_by s size low high some short ends =
-    let inside = ends_within short.0 s low high short.2 ends in
+small_span : (s : Span3) → IsShortSpan s → IsSmallSpan s
+small_span s short = (short.0, omega (arith, short.1), short.2)
+
+within : (s : Span3) (size index place length : ℕ) → StandsAt s size index place → IsSpanIn length s → index / size < div_ceil length size
+within s size index place length at span =
+    piece_within length size index at.some (omega (arith, at.number, (number_low length s place span at.low at.high).1))
+
+pub slice_up : (s : Span3) (size index place room stride : ℕ) → StandsAt s size index place → pos 0 <ℤ s.step → stride ≡ unsigned_abs s.step → room + index % size + 1 ≡ size → IsSlice s size place (index / size) (min (place + room / stride) s.count + 1)
+slice_up s size index place room stride at up step fits =
+    let small = small_span s at.span in
+    let moves : 0 < stride = rw step (size_pos s.step small.2.steps) in
     record {
-      order = omega (arith, quotient_le (low - 1) (high - 1) size some (omega (arith, inside.1)));
-      each = λ k at.
-          let between = ends.each (k + 1) at in
-          (quotient_le (low - 1) k size some (omega (arith, between.0)), omega (arith, quotient_le k (high - 1) size some (omega (arith, between.1))));
-      within = λ length span.
-          let in_span = ends_within length s low high span ends in
-          omega (arith, piece_within length size (high - 1) some (omega (arith, in_span.0, in_span.1, in_span.2)));
+      some = omega (arith, at.high);
+      last = omega arith;
+      each = λ i low lt.
+          let is : number_at_place s i - 1 ≡ index + (i - place) * stride = rw step (behind_up s index place i up small at.low low (omega arith) at.number) in
+          ap (λ (n : ℕ). n / size) is ∙ stays_up index ((i - place) * stride) size at.some (omega (arith, fits, few_steps (i - place) room stride (omega arith)));
+      next = λ more same.
+          let end : ℕ = min (place + room / stride) s.count + 1 in
+          let is : number_at_place s end - 1 ≡ index + (end - place) * stride = behind_up s index place end up small at.low (omega (arith, at.high)) more at.number ∙ ap (λ (k : ℕ). index + (end - place) * k) (sym step) in
+          leaves_up index ((end - place) * stride) size at.some (omega (arith, fits, many_steps (end - place) room stride moves (omega (arith, more)))) (sym (ap (λ (n : ℕ). n / size) is) ∙ same);
+      fits = λ length span. within s size index place length at span;
     }
 
-pub no_pieces : (s : Span3) (size : ℕ) → s.count ≡ 0 → ArePieces s size 0 0
-no_pieces s size none = record {
+pub slice_down : (s : Span3) (size index place room stride : ℕ) → StandsAt s size index place → s.step <ℤ pos 0 → stride ≡ unsigned_abs s.step → room ≡ index % size → IsSlice s size place (index / size) (min (place + room / stride) s.count + 1)
+slice_down s size index place room stride at down step fits =
+    let small = small_span s at.span in
+    let moves : 0 < stride = rw step (size_pos s.step small.2.steps) in
+    record {
+      some = omega (arith, at.high);
+      last = omega arith;
+      each = λ i low lt.
+          let is : number_at_place s i - 1 ≡ index - (i - place) * stride = rw step (behind_down s index place i down small at.low low (omega arith) at.number).0 in
+          ap (λ (n : ℕ). n / size) is ∙ stays_down index ((i - place) * stride) size at.some (omega (arith, fits, few_steps (i - place) room stride (omega arith)));
+      next = λ more same.
+          let end : ℕ = min (place + room / stride) s.count + 1 in
+          let behind = behind_down s index place end down small at.low (omega (arith, at.high)) more at.number in
+          let is : number_at_place s end - 1 ≡ index - (end - place) * stride = behind.0 ∙ ap (λ (k : ℕ). index - (end - place) * k) (sym step) in
+          let le : (end - place) * stride ≤ index = omega (arith, behind.1, ap (λ (k : ℕ). (end - place) * k) step) in
+          leaves_down index ((end - place) * stride) size at.some le (omega (arith, fits, many_steps (end - place) room stride moves (omega (arith, more)))) (sym (ap (λ (n : ℕ). n / size) is) ∙ same);
+      fits = λ length span. within s size index place length at span;
+    }
+
+pub slice_is : (s : Span3) (size index place room stride : ℕ) → StandsAt s size index place → stride ≡ unsigned_abs s.step → (pos 0 <ℤ s.step → room + index % size + 1 ≡ size) → (s.step <ℤ pos 0 → room ≡ index % size) → IsSlice s size place (index / size) (min (place + room / stride) s.count + 1)
+slice_is s size index place room stride at step rise fall = ⊎_elim
+    (λ (up : pos 0 <ℤ s.step). slice_up s size index place room stride at up step (rise up))
+    (λ (down : s.step <ℤ pos 0). slice_down s size index place room stride at down step (fall down))
+    (step_cases s.step at.span.2.steps)
+
+-- the rows on the diagonal stand at the places of their columns
+pub kept_diag : (first last rows : ℕ) → 1 ≤ first → first < last → last ≤ rows + 1 → AreKept Diag first last rows first last
+kept_diag first last rows above some within = record {
+  some = above;
   order = omega arith;
-  each = λ k at. absurd (omega (arith, at.1.low, at.1.high));
-  within = λ length span. omega arith;
+  end = within;
+  exact = λ i low high. ((λ between. (i, between.0, between.1, grind (arith, nat_tests))), (λ has. (grind (arith, nat_tests), grind (arith, nat_tests))));
 }

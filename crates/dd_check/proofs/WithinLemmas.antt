@@ -15,7 +15,7 @@ use Rattle.dd_place.specs.Premises.{HasBlocks}
 use Rattle.dd_place.proofs.PremisesLemmas.{can_place}
 use Rattle.dd_check.specs.Above.{Above, settle}
 use Rattle.dd_check.specs.Sound.{IsSound}
-use Rattle.dd_check.proofs.BlockViewLemmas.{element_within}
+use Rattle.dd_check.proofs.TouchedLemmas.{element_within}
 use Rattle.dd_check.proofs.ClearLemmas.{some_row}
 use Rattle.dd_check.proofs.ElementsLemmas.{contained}
 use Rattle.dd_check.proofs.MachineLemmas.{settle_sound}

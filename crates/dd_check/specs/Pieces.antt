@@ -1,26 +1,34 @@
--- Rows and columns by the pieces that an edge is cut into.
-use Rattle.std.specs.Prelude.{◌≡◌, ℕ, ◌+◌, ◌/◌, ◌^◌, ◌<◌, ◌≤◌}
+-- The places of a span's numbers by the pieces that an edge is cut into, and the places that a part keeps.
+use Rattle.std.specs.Prelude.{◌≡◌, ◌≢◌, ◌↔◌, ℕ, ◌+◌, ◌-◌, ◌/◌, ◌^◌, ◌<◌, ◌≤◌, true}
 use Rattle.std.specs.Int.{div_ceil}
+use Rattle.dd_views.specs.declared.part.Part.{Part}
 use Rattle.dd_views.specs.declared.span3.Span3.{Span3}
+use Rattle.dd_views.specs.IndexList.{keeps, number_at_place}
 use Rattle.dd_views.specs.Span.{IsSpanIn}
-use Rattle.dd_alias.specs.Places.{IsIn}
-
--- the row or column, from 0, is one of the piece
-abbrev pub IsInPiece : ℕ → ℕ → ℕ → ℕ → Type 0
-IsInPiece length size piece k = (k < length) × (k / size ≡ piece)
 
 -- numbers of 1 to a length of 32 bits
 abbrev pub IsShortSpan : Span3 → Type 0
 IsShortSpan s = (length : ℕ) × (length < 2 ^ 32) × IsSpanIn length s
 
--- the least and the greatest number of a span
-pub record AreEnds (s : Span3) (low high : ℕ) : Type 0 where
-  pub least : IsIn s low
-  pub greatest : IsIn s high
-  pub each : (x : ℕ) → IsIn s x → (low ≤ x) × (x ≤ high)
+-- the piece, from 0, in which the number at a place lies
+abbrev pub piece_at : Span3 → ℕ → ℕ → ℕ
+piece_at s size i = (number_at_place s i - 1) / size
 
--- the numbers of a span are in these pieces, the last one not counted, and these are pieces of the edge
-pub record ArePieces (s : Span3) (size low high : ℕ) : Type 0 where
+-- the numbers at the places from low on and below end lie in one piece, and the next one does not
+pub record IsSlice (s : Span3) (size low piece end : ℕ) : Type 0 where
+  pub some : low < end
+  pub last : end ≤ s.count + 1
+  pub each : (i : ℕ) → low ≤ i → i < end → piece_at s size i ≡ piece
+  pub next : end ≤ s.count → piece_at s size end ≢ piece
+  pub fits : (length : ℕ) → IsSpanIn length s → piece < div_ceil length size
+
+-- the part keeps the row at the place i in one of the columns at the places from first on and below last
+abbrev pub KeepsIn : Part → ℕ → ℕ → ℕ → Type 0
+KeepsIn part first last i = (k : ℕ) × (first ≤ k) × (k < last) × (keeps part i k ≡ true)
+
+-- the places from low on and below high are those of the rows that it keeps there
+pub record AreKept (part : Part) (first last rows low high : ℕ) : Type 0 where
+  pub some : 1 ≤ low
   pub order : low ≤ high
-  pub each : (k : ℕ) → IsIn s (k + 1) → (low ≤ k / size) × (k / size < high)
-  pub within : (length : ℕ) → IsSpanIn length s → high ≤ div_ceil length size
+  pub end : high ≤ rows + 1
+  pub exact : (i : ℕ) → 1 ≤ i → i ≤ rows → ((low ≤ i) × (i < high)) ↔ KeepsIn part first last i

@@ -12,12 +12,13 @@
 //! Plan is well formed, so whoever takes it need not look at it again.
 //!
 //! The text is gone through once, line by line. Names are found by a hash map, and no list of elements is made: the blocks
-//! that a task touches follow from the bounds of its views, by asking whether a view overlaps a block.
+//! that a task touches follow from the places of its views' rows and columns, from one piece of an edge to the next.
 //!
 //! Inside, `line` reads a line, `taking` asks the kinds of fault of a statement in their order and lets it enter, and
 //! `script` goes from line to line. The kinds stand in `naming`, `standing`, `edges`, `arguments`, `accesses`, `passing` and
-//! `placed`, and `kinds` joins those of a task's arguments. `touched`, `pieces`, `charge` and `task` make the row of a task.
-//! `entering` adds what a statement leaves to the `draft`, by `row`, `making`, `renaming`, `joining`, `pushing` and `machine`.
+//! `placed`, and `kinds` joins those of a task's arguments. `touched`, `pieces`, `places`, `charge` and `task` make the row of
+//! a task. `entering` adds what a statement leaves to the `draft`, by `row`, `making`, `renaming`, `joining`, `pushing` and
+//! `machine`.
 //! The definitions to believe are `specs/Above.antt`, `Rows.antt`, `Kinds.antt`, `Entering.antt`, `Lines.antt` and
 //! `Faults.antt`; the others are cited by private contracts alone. [`laws`] has what holds of all texts.
 #![tactic(auto)]
@@ -45,6 +46,7 @@ mod opened;
 mod passing;
 mod pieces;
 mod placed;
+mod places;
 mod pushing;
 mod renaming;
 mod row;

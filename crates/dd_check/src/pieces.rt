@@ -1,62 +1,65 @@
-//! The pieces that an edge of an array is cut into.
-ghost use Rattle.std.specs.Prelude.{◌≡◌, ◌↔◌, ℕ, ◌+◌, ◌*◌, ◌<◌, ◌≤◌, unsigned_abs};
-ghost use Rattle.dd_views.specs.Span.{IsSmallSpan, IsSpanIn};
-ghost use Rattle.dd_alias.specs.Places.{IsIn};
-ghost use Rattle.dd_check.specs.Pieces.{AreEnds, ArePieces, IsInPiece, IsShortSpan};
+//! The pieces that an edge of an array is cut into, and the numbers of a span that lie in them.
+ghost use Rattle.std.specs.Prelude.{◌≡◌, ℕ, ◌+◌, ◌<◌, ◌≤◌, pos, ◌<ℤ◌, unsigned_abs};
+ghost use Rattle.dd_views.specs.IndexList.{number_at_place};
+ghost use Rattle.dd_views.specs.Span.{IsSpanIn};
+ghost use Rattle.dd_check.specs.Pieces.{IsShortSpan, IsSlice};
 
 use dd_views::Span3;
 
-/// Some pieces of an edge one after the other, by their numbers from 0: those from `low` on and below `high`.
+/// Numbers of a span one after the other that lie in one piece of an edge.
 #[derive(Clone, Copy, Debug)]
-pub(crate) struct Pieces {
-    pub(crate) low: u32,
-    pub(crate) high: u32,
+pub(crate) struct Slice {
+    /// The piece, from 0.
+    pub(crate) piece: u32,
+    /// The place, from 1, behind that of the last number.
+    pub(crate) end: u64,
 }
 
-/// The pieces in which numbers of a span may lie.
-pub(crate) fn pieces_of(span: &Span3, size: u32) -> Pieces
+/// The numbers of a span from the one at a place on, up to the last one in the piece in which this one lies.
+pub(crate) fn slice_from(span: &Span3, size: u32, place: u64) -> Slice
     requires span { IsShortSpan span.now }
     requires some { 1 ≤ size }
-    ensures { ArePieces span.now size result.low result.high }
+    requires low { 1 ≤ place }
+    requires high { place ≤ span.now.count }
+    ensures { IsSlice span.now size place result.piece result.end }
 {
-    if span.count == 0 {
-        return Pieces { low: 0, high: 0 };
-    }
-    let (low, high) = ends(span);
     let size = u64::from(size);
-    Pieces {
-        low: ((low - 1) / size) as u32,
-        high: ((high - 1) / size) as u32 + 1,
+    let index = index_at(span, place);
+    let more = room(span, index % size, size) / stride(span);
+    Slice {
+        piece: (index / size) as u32,
+        end: (place + more).min(u64::from(span.count)) + 1,
     }
 }
 
-/// The rows or columns of a piece of an edge, by its number from 0.
-pub(crate) fn piece_span(length: u32, size: u32, piece: u32) -> Span3
-    requires some { 1 ≤ size }
-    requires begins { piece * size < length }
-    ensures span { IsSpanIn length result }
-    ensures exact { (k : ℕ) → IsIn result (k + 1) ↔ IsInPiece length size piece k }
+/// How far a span may go on from a number of a piece, in the direction of its step, without leaving the piece.
+fn room(span: &Span3, before: u64, size: u64) -> u64
+    requires { before < size }
+    ensures up { pos 0 <ℤ span.now.step → result + before + 1 ≡ size }
+    ensures down { span.now.step <ℤ pos 0 → result ≡ before }
 {
-    let before = piece * size;
-    Span3 {
-        first: before + 1,
-        step: 1,
-        count: size.min(length - before),
-    }
-}
-
-/// The least and the greatest number of a span.
-fn ends(span: &Span3) -> (u64, u64)
-    requires span { IsSmallSpan span.now }
-    requires some { 1 ≤ span.now.count }
-    ensures { AreEnds span.now result.0 result.1 }
-{
-    let first = u64::from(span.first);
-    let way = (u64::from(span.count) - 1) * stride(span);
     if span.step > 0 {
-        return (first, first + way);
+        size - 1 - before
+    } else {
+        before
     }
-    (first - way, first)
+}
+
+/// One less than the number at a place.
+fn index_at(span: &Span3, place: u64) -> u64
+    requires span { IsShortSpan span.now }
+    requires low { 1 ≤ place }
+    requires high { place ≤ span.now.count }
+    ensures number { result + 1 ≡ number_at_place span.now place }
+    ensures within { (length : ℕ) → IsSpanIn length span.now → result < length }
+{
+    let first = u64::from(span.first) - 1;
+    let way = (place - 1) * stride(span);
+    if span.step > 0 {
+        first + way
+    } else {
+        first - way
+    }
 }
 
 /// The size of the step.

@@ -1,21 +1,21 @@
 //! The blocks that a task touches.
-ghost use Rattle.std.specs.Prelude.{◌≡◌, ◌↔◌, ℕ, ◌^◌, ◌<◌, ◌≤◌, All, Contains, IfOk, OnOk, IsTrue, length};
+ghost use Rattle.std.specs.Prelude.{◌≡◌, ◌↔◌, ℕ, ◌+◌, ◌^◌, ◌<◌, ◌≤◌, All, Contains, IfOk, OnOk, length};
 ghost use Rattle.std.specs.List.Sorted.{IsStrictlyIncreasing};
-ghost use Rattle.dd_views.specs.IndexList.{index_list};
+ghost use Rattle.dd_views.specs.Span.{IsSpanIn};
 ghost use Rattle.dd_views.specs.Views.{IsViewOf};
 ghost use Rattle.dd_blocks.specs.declared.task_row.TaskRow.{TaskRow};
 ghost use Rattle.dd_blocks.specs.Charges.{AreTouched};
-ghost use Rattle.dd_blocks.specs.Grids.{IsGrid, block_cols, block_rows, element_count};
+ghost use Rattle.dd_blocks.specs.Grids.{block_cols, block_rows};
 ghost use Rattle.dd_blocks.specs.Numbered.{IsNumberIn, array_row};
 ghost use Rattle.dd_blocks.specs.Tasks.{shape_in};
 ghost use Rattle.dd_blocks.specs.WellFormed.{HasSmallEdges};
 ghost use Rattle.dd_place.specs.Premises.{HasBlocks, IsOfPlan};
-ghost use Rattle.dd_check.specs.Touching.{Adds, AreOf, Between, HasSmallNumbers, HasSomeIn, HoldsSome, IsTouchedAt, IsTouchedBy, IsTouchedIn, StandsIn, number_of_block};
+ghost use Rattle.dd_check.specs.Touching.{Adds, AreOf, Between, HasSmallNumbers, HoldsSome, IsBlockAt, IsTouchedBy, number_of_block};
 
-use crate::pieces::{Pieces, piece_span, pieces_of};
-use dd_alias::overlap;
-use dd_blocks::{AccessRow, ArrayRow, Grid, Plan};
-use dd_views::{Part, View};
+use crate::pieces::slice_from;
+use crate::places::{Places, kept_in};
+use dd_blocks::{AccessRow, ArrayRow, Plan};
+use dd_views::{Span3, View};
 use std::alloc::{AllocError, Global};
 
 /// The numbers of the blocks that some accesses touch, rising.
@@ -88,77 +88,50 @@ fn array_row(plan: &Plan, array: u32) -> ArrayRow
     plan.arrays.as_slice()[array as usize - 1]
 }
 
-/// Adds the numbers of the blocks of an array that a view touches.
+/// Adds the numbers of the blocks of an array that a view touches: one column of blocks after the other.
 fn add_touched(blocks: &mut Vec<u32>, array: &ArrayRow, view: &View) -> Result<(), AllocError>
     requires array { HasSmallNumbers array.now }
     requires view { IsViewOf (shape_in array.now) view.now }
     ensures { OnOk result (Adds (IsTouchedBy array.now view.now) blocks.old.items blocks.new.items) }
 {
-    let rows = pieces_of(&view.rows, array.grid.brows);
-    let cols = pieces_of(&view.cols, array.grid.bcols);
-    add_in_columns(blocks, array, view, rows, cols)
-}
-
-/// Adds the numbers of those that stand between some rows and some columns of blocks.
-fn add_in_columns(
-    blocks: &mut Vec<u32>,
-    array: &ArrayRow,
-    view: &View,
-    rows: Pieces,
-    cols: Pieces,
-) -> Result<(), AllocError>
-    requires array { HasSmallNumbers array.now }
-    requires view { IsViewOf (shape_in array.now) view.now }
-    requires rows { (rows.low ≤ rows.high) × (rows.high ≤ block_rows array.now.grid) }
-    requires cols { (cols.low ≤ cols.high) × (cols.high ≤ block_cols array.now.grid) }
-    ensures { OnOk result (Adds (Between (IsTouchedIn array.now view.now rows.low rows.high) cols.low cols.high) blocks.old.items blocks.new.items) }
-{
-    for j in cols.low..cols.high {
-        if let Err(fault) = add_in_column(blocks, array, view, rows, j) {
+    let end = u64::from(view.cols.count) + 1;
+    let mut place = 1;
+    while place < end {
+        let col = slice_from(&view.cols, array.grid.bcols, place);
+        let cols = Places {
+            low: place,
+            high: col.end,
+        };
+        let rows = kept_in(view.part, cols, view.rows.count);
+        if let Err(fault) = add_in_column(blocks, array, &view.rows, rows, col.piece) {
             return Err(fault);
         }
+        place = col.end;
     }
     Ok(())
 }
 
-/// Adds the numbers of those in one column.
+/// Adds the numbers of the blocks in a column of blocks that some rows lie in, which stand at these places of a span.
 fn add_in_column(
     blocks: &mut Vec<u32>,
     array: &ArrayRow,
-    view: &View,
-    rows: Pieces,
-    j: u32,
+    span: &Span3,
+    rows: Places,
+    col: u32,
 ) -> Result<(), AllocError>
     requires array { HasSmallNumbers array.now }
-    requires view { IsViewOf (shape_in array.now) view.now }
-    requires rows { (rows.low ≤ rows.high) × (rows.high ≤ block_rows array.now.grid) }
-    requires col { j < block_cols array.now.grid }
-    ensures { OnOk result (Adds (IsTouchedIn array.now view.now rows.low rows.high j) blocks.old.items blocks.new.items) }
+    requires span { IsSpanIn array.now.grid.rows span.now }
+    requires low { 1 ≤ rows.low }
+    requires order { rows.low ≤ rows.high }
+    requires high { rows.high ≤ span.now.count + 1 }
+    requires col { col < block_cols array.now.grid }
+    ensures { OnOk result (Adds (Between (IsBlockAt array.now span.now col) rows.low rows.high) blocks.old.items blocks.new.items) }
 {
-    for i in rows.low..rows.high {
-        if let Err(fault) = add_at(blocks, array, view, i, j) {
-            return Err(fault);
-        }
-    }
-    Ok(())
-}
-
-/// Adds the number of a block, if the view touches it.
-fn add_at(
-    blocks: &mut Vec<u32>,
-    array: &ArrayRow,
-    view: &View,
-    i: u32,
-    j: u32,
-) -> Result<(), AllocError>
-    requires array { HasSmallNumbers array.now }
-    requires view { IsViewOf (shape_in array.now) view.now }
-    requires row { i < block_rows array.now.grid }
-    requires col { j < block_cols array.now.grid }
-    ensures { OnOk result (Adds (IsTouchedAt array.now view.now j i) blocks.old.items blocks.new.items) }
-{
-    if has_some_in(array, view, i, j) {
-        blocks.push(number_of_block(array, i, j))?;
+    let mut place = rows.low;
+    while place < rows.high {
+        let row = slice_from(span, array.grid.brows, place);
+        blocks.push(number_of_block(array, row.piece, col))?;
+        place = row.end;
     }
     Ok(())
 }
@@ -174,31 +147,5 @@ fn number_of_block(array: &ArrayRow, i: u32, j: u32) -> u32
     array.first_block + (j * block_rows + i)
 }
 
-/// Whether a view of the array has an element in that block.
-fn has_some_in(array: &ArrayRow, view: &View, i: u32, j: u32) -> bool
-    requires grid { IsGrid array.now.grid }
-    requires view { IsViewOf (shape_in array.now) view.now }
-    requires row { i < block_rows array.now.grid }
-    requires col { j < block_cols array.now.grid }
-    ensures { IsTrue result ↔ HasSomeIn array.now.grid view.now i j }
-{
-    overlap(view, &block_view(view.array, &array.grid, i, j))
-}
-
-/// The elements of that block as a view of its array.
-fn block_view(array: u32, grid: &Grid, i: u32, j: u32) -> View
-    requires grid { IsGrid grid.now }
-    requires row { i < block_rows grid.now }
-    requires col { j < block_cols grid.now }
-    ensures array { result.array ≡ array }
-    ensures view { IsViewOf (record { rows = grid.now.rows; cols = grid.now.cols }) result }
-    ensures exact { (pos : ℕ) → Contains (index_list result) pos ↔ ((pos < element_count grid.now) × StandsIn grid.now i j pos) }
-{
-    View {
-        array,
-        height: grid.rows,
-        rows: piece_span(grid.rows, grid.brows, i),
-        cols: piece_span(grid.cols, grid.bcols, j),
-        part: Part::All,
-    }
-}
+#[cfg(test)]
+mod tests;

@@ -1,15 +1,10 @@
-use Rattle.std.proofs.Common.{◌≡◌, ℕ, arith, subst}
-use Rattle.dd_check.specs.Touching.{Adds, Between, IsTouchedAt}
-use Rattle.dd_check.proofs.TouchedLemmas.{adds_more, adds_start}
+use Rattle.std.proofs.Common.{arith}
+use Rattle.dd_check.proofs.TouchedLemmas.{adds_slice}
 use Rattle.dd_check.proofs.touched.add_in_column.Goals as goal
 
-pub loop-i-init : goal.loop-i-init
-loop-i-init c = adds_start (IsTouchedAt c.args.array.now c.args.view.now c.args.j) c.args.rows.low c.args.blocks.now.items
-
-pub returns : goal.returns
-returns c =
-    let last : c.loop-i.i ≡ c.args.rows.high = omega arith in
-    subst (λ (k : ℕ). Adds (Between (IsTouchedAt c.args.array.now c.args.view.now c.args.j) c.args.rows.low k) c.args.blocks.now.items c.loop-i.blocks.items) last c.loop-i.invariant
-
-pub loop-i-preserved : goal.loop-i-preserved
-loop-i-preserved c = adds_more (IsTouchedAt c.args.array.now c.args.view.now c.args.j) c.args.rows.low c.loop-i.i c.args.blocks.now.items c.loop-i.blocks.items c.add_at.new.blocks.items (omega arith) c.loop-i.invariant c.in_default.ensures
+pub loop-place-preserved : goal.loop-place-preserved
+loop-place-preserved c = record {
+  low = omega (arith, c.loop-place.invariant.low, c.slice_from-row.ensures.some);
+  added = rw c.in_ok-push.ensures.items (adds_slice c.args.array.now c.args.span.now c.args.col c.args.rows.low c.loop-place.place c.args.rows.high c.slice_from-row.result.piece c.slice_from-row.result.end c.number_of_block.result c.args.blocks.now.items c.loop-place.blocks.items
+      c.loop-place.invariant.low c.loop-place-test.true c.slice_from-row.ensures c.number_of_block.ensures c.loop-place.invariant.added);
+}

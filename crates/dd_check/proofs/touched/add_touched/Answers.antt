@@ -1,21 +1,16 @@
-use Rattle.std.proofs.lemmas.Result.{on_ok_weaker}
-use Rattle.dd_check.specs.Touching.{Adds, Between, IsTouchedBy, IsTouchedIn}
-use Rattle.dd_check.proofs.TouchedLemmas.{adds_same, touched_between}
+use Rattle.std.proofs.Common.{◌≡◌, ◌+◌, arith}
+use Rattle.dd_check.proofs.TouchedLemmas.{adds_column, adds_touched}
 use Rattle.dd_check.proofs.touched.add_touched.Goals as goal
 
-pub pieces_of-rows-requires-clause-span : goal.pieces_of-rows-requires-clause-span
-pieces_of-rows-requires-clause-span c = (c.args.array.now.grid.rows, c.requires.array.rows, c.requires.view.rows)
-
-pub pieces_of-cols-requires-clause-span : goal.pieces_of-cols-requires-clause-span
-pieces_of-cols-requires-clause-span c = (c.args.array.now.grid.cols, c.requires.array.cols, c.requires.view.cols)
+pub loop-place-preserved : goal.loop-place-preserved
+loop-place-preserved c = record {
+  low = omega (arith, c.loop-place.invariant.low, c.slice_from-col.ensures.some);
+  high = c.slice_from-col.ensures.last;
+  added = adds_column c.args.array.now c.args.view.now c.loop-place.place c.slice_from-col.result.piece c.slice_from-col.result.end c.kept_in-rows.result.low c.kept_in-rows.result.high c.args.blocks.now.items c.loop-place.blocks.items c.add_in_column.new.blocks.items
+      c.loop-place.invariant.low c.slice_from-col.ensures c.kept_in-rows.ensures c.loop-place.invariant.added c.in_default.ensures;
+}
 
 pub returns : goal.returns
 returns c =
-    let array = c.args.array.now in
-    let view = c.args.view.now in
-    let rows = c.pieces_of-rows.result in
-    let cols = c.pieces_of-cols.result in
-    let same = touched_between array view rows.low rows.high cols.low cols.high c.requires.view c.pieces_of-rows.ensures c.pieces_of-cols.ensures in
-    on_ok_weaker {P = Adds (Between (IsTouchedIn array view rows.low rows.high) cols.low cols.high) c.args.blocks.now.items c.add_in_columns.new.blocks.items} c.add_in_columns.result
-    (λ adds. adds_same (Between (IsTouchedIn array view rows.low rows.high) cols.low cols.high) (IsTouchedBy array view) c.args.blocks.now.items c.add_in_columns.new.blocks.items same adds)
-    c.add_in_columns.ensures
+    let last : c.loop-place.place ≡ c.args.view.now.cols.count + 1 = omega (arith, c.from-end.ensures, c.loop-place.invariant.high, c.loop-place-test.false) in
+    adds_touched c.args.array.now c.args.view.now c.loop-place.place c.args.blocks.now.items c.loop-place.blocks.items c.requires.view last c.loop-place.invariant.added
