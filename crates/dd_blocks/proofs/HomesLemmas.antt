@@ -16,8 +16,11 @@ last_maybe : (before : ℕ) (xs : List ℕ) (o : Option ℕ) → unwrap_or (last
 last_maybe before xs None = ap (λ (ys : List ℕ). unwrap_or (last_or None ys) before) (append-nil xs)
 last_maybe before xs (Some y) = ap (λ (o : Option ℕ). unwrap_or o before) (last_push None xs y)
 
+-- the home after one row more
+pub home_push : (moved before : ℕ) (rows : List StatementRow) (row : StatementRow) → home_after moved before (rows ++ row ∷ []) ≡ unwrap_or (space_moved_to moved row.what) (home_after moved before rows)
+home_push moved before rows row =
+    ap (λ (xs : List ℕ). unwrap_or (last_or None xs) before) (filter_map-append (λ (r : StatementRow). space_moved_to moved r.what) rows (row ∷ []))
+    ∙ last_maybe before (spaces_of moved rows) (space_moved_to moved row.what)
+
 pub home_more : (moved before : ℕ) (rows : List StatementRow) (i : ℕ) (d : StatementRow) → i < length rows → home_after moved before (take (i + 1) rows) ≡ unwrap_or (space_moved_to moved (get_or rows i d).what) (home_after moved before (take i rows))
-home_more moved before rows i d lt =
-    ap (home_after moved before) (take_more rows i d lt)
-    ∙ ap (λ (xs : List ℕ). unwrap_or (last_or None xs) before) (filter_map-append (λ (row : StatementRow). space_moved_to moved row.what) (take i rows) (get_or rows i d ∷ []))
-    ∙ last_maybe before (spaces_of moved (take i rows)) (space_moved_to moved (get_or rows i d).what)
+home_more moved before rows i d lt = ap (home_after moved before) (take_more rows i d lt) ∙ home_push moved before (take i rows) (get_or rows i d)

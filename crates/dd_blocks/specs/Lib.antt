@@ -1,6 +1,7 @@
 pub mod Grids
 pub mod Numbered
 pub mod Homes
+pub mod ArrayHomes
 pub mod Conflicts
 pub mod Charges
 pub mod Limits

@@ -11,16 +11,17 @@
 //!
 //! A [`Plan`] is a script as everything below its reader sees it: its spaces, processors, arrays, blocks, tasks and
 //! statements, each a list of rows. A row names others by their numbers, from 1 on. Nobody changes a Plan once it is
-//! made. A block has a first home, a space, and [`Plan::home_before`] gives its home when a statement begins.
+//! made. A block has a first home, a space, and [`Plan::home_before`] gives its home when a statement begins. Who goes
+//! from statement to statement keeps the spaces to which the arrays were moved by [`What::move_home`].
 //!
 //! A [`Name`] owns its bytes, so that what was read outlives the text. It is not for names that are looked up in the
 //! text alone: a slice of it does there, and takes no memory.
 //!
-//! No call but [`Name::of`] takes memory. Those of a grid are a few products and divisions; `home_before` goes through
-//! the statements above the row.
+//! No call but [`Name::of`] takes memory. Those of a grid are a few products and divisions, and `move_home` is one
+//! write; `home_before` goes through the statements above the row.
 //!
 //! Inside, `piece` has the length of a piece of an edge, and each other module one record. The definitions stand in
-//! `specs/Grids.antt` and `specs/Homes.antt`, and what holds of a grid as a whole in [`laws`].
+//! `specs/Grids.antt`, `specs/Homes.antt` and `specs/ArrayHomes.antt`, and what holds of a grid as a whole in [`laws`].
 #![tactic(auto)]
 
 mod access_row;

@@ -24,6 +24,8 @@ pub enum What {
 }
 
 impl What {
+    ghost use Rattle.std.specs.Prelude.{length};
+    ghost use Rattle.dd_blocks.specs.ArrayHomes.{HasArray, homes_after};
     ghost use Rattle.dd_blocks.specs.Homes.{space_moved_to};
 
     /// The space that becomes the home of an array's blocks, where the statement moves them.
@@ -33,6 +35,17 @@ impl What {
         match self {
             What::MoveTo { array, space } if *array == moved => Some(*space),
             _ => None,
+        }
+    }
+
+    /// Puts the space that becomes the home of an array's blocks into `homes`, which has a space for each array, where
+    /// the statement moves one.
+    pub fn move_home(&self, homes: &mut [u32])
+        requires { HasArray (length homes.old) self.now }
+        ensures { homes.new ≡ homes_after homes.old self.now }
+    {
+        if let What::MoveTo { array, space } = self {
+            homes[*array as usize - 1] = *space;
         }
     }
 }

@@ -4,4 +4,6 @@ pub mod LoadsLemmas
 pub mod OneLemmas
 pub mod RisingLemmas
 pub mod PremisesLemmas
+pub mod HomesLemmas
+pub mod NextLemmas
 mod PlacementExamples

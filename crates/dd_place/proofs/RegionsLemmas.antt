@@ -37,6 +37,9 @@ is_run region (Some n) same = ap (λ (x : ℕ). Some x) (eqb-true n region same)
 other_run : (region : ℕ) (run : Option ℕ) → run ≢ Some region → option_map_or (λ n. nat_eq n region) run false ≡ false
 other_run region run other = false_from_ne_true _ (λ same. other (is_run region run same))
 
+pub not_run : (region : ℕ) (row : StatementRow) → region_run row.what ≢ Some region → runs region row ≡ false
+not_run region row other = as_run region row.what ∙ other_run region (region_run row.what) other
+
 same_run : (region : ℕ) (run : Option ℕ) → run ≡ Some region → option_map_or (λ n. nat_eq n region) run false ≡ true
 same_run region run same = rw same (eq-eqb region region (omega arith))
 

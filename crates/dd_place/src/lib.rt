@@ -15,8 +15,9 @@
 //! Where the space has no processor, all are candidates. The region of the task is one that a row of the Plan runs, or
 //! the next one: then its tasks are placed with all rows above it in the Plan.
 //!
-//! No call takes memory. A task costs a pass over `earlier` for each candidate, and one over the statements above its
-//! region; the rows are searched for the region from the last one up, to the first region that isn't behind.
+//! No call takes memory. A task costs a pass over `earlier` for each candidate. Under `Home`, [`place`] goes through the
+//! statements above its region too, and searches the rows for the region from the last one up, to the first region that
+//! isn't behind. [`place_by`] looks at no statement: it is given the space to which each array was moved last.
 //!
 //! Inside, `leading` finds the block by which a task finds its space, `region` the row that runs a region, `load` the
 //! least loaded processor, and `processor` joins them. The definitions of a placement stand in
@@ -30,4 +31,4 @@ mod load;
 mod processor;
 mod region;
 
-pub use processor::place;
+pub use processor::{place, place_by};

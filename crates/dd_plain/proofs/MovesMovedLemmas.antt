@@ -12,6 +12,7 @@ use Rattle.dd_blocks.specs.declared.access_row.AccessRow.{AccessRow}
 use Rattle.dd_blocks.specs.declared.array_row.ArrayRow.{ArrayRow}
 use Rattle.dd_blocks.specs.declared.plan.Plan.{Plan}
 use Rattle.dd_blocks.specs.declared.task_row.TaskRow.{TaskRow}
+use Rattle.dd_blocks.specs.ArrayHomes.{AreMovedTo}
 use Rattle.dd_blocks.specs.Charges.{access_elements}
 use Rattle.dd_blocks.specs.Grids.{element_count}
 use Rattle.dd_blocks.specs.Homes.{row_of_region}
@@ -24,7 +25,7 @@ use Rattle.dd_meaning.specs.Moves.{home_of, moved, moves_in_array, moves_of}
 use Rattle.dd_meaning.specs.Versions.{Element, tasks_in}
 use Rattle.dd_plain.specs.declared.moves.mark.Visit.{Visit}
 use Rattle.dd_plain.specs.declared.moves.mark.Visit.TheVariants.{Read, Write, Leave}
-use Rattle.dd_plain.specs.MovesHomes.{AreMovedTo, IsViewIn}
+use Rattle.dd_plain.specs.MovesHomes.{IsViewIn}
 use Rattle.dd_plain.specs.MovesVisits.{ElementVisit, IsDone, IsWalkable, Visited, access_visits, is_of, marks_after, moves_along, region_visits, space_of, task_visits, visit_at, visits_by, visits_of}
 use Rattle.dd_plain.proofs.MovesElementLemmas.{element_mark, element_moves, get_or-marks_after, moves_along-sum}
 use Rattle.dd_plain.proofs.MovesLayoutLemmas.{elements_within, stands}

@@ -1,29 +1,28 @@
 -- What a well-formed Plan gives to the walk of a region.
-use Rattle.std.proofs.Common.{◌≡◌, ℕ, zero, suc, ◌+◌, ◌-◌, ◌<◌, ◌≤◌, Bool, true, false, eqb, cond, ◌&&◌, List, [], ◌∷◌, length, get_or, take, Option, None, Some, refl, sym, ap, ◌∙◌, subst, arith, ⊎_elim}
+use Rattle.std.proofs.Common.{◌≡◌, ℕ, zero, suc, ◌+◌, ◌-◌, ◌<◌, ◌≤◌, Bool, true, false, eqb, cond, ◌&&◌, List, [], length, get_or, take, Option, None, Some, sym, ap, ◌∙◌, subst, arith, ⊎_elim}
 use Rattle.std.specs.Option.{unwrap_or}
-use Rattle.std.specs.List.{All, cons_option, last_or, list_any}
+use Rattle.std.specs.List.{last_or, list_any}
 use Rattle.std.proofs.lemmas.Bool.{cases_lt}
-use Rattle.std.proofs.lemmas.Bool.Decides.{nat_tests}
 use Rattle.std.proofs.lemmas.List.{get_or_past}
-use Rattle.std.proofs.lemmas.List.Elements.{All-from_get_or, All-get_or, All-head, All-tail, All-take, All-weaker}
+use Rattle.std.proofs.lemmas.List.Elements.{All-from_get_or, All-get_or, All-take}
 use Rattle.dd_blocks.specs.declared.access_row.AccessRow.{AccessRow}
 use Rattle.dd_blocks.specs.declared.block_row.BlockRow.{BlockRow}
 use Rattle.dd_blocks.specs.declared.plan.Plan.{Plan}
 use Rattle.dd_blocks.specs.declared.proc_row.ProcRow.{ProcRow}
 use Rattle.dd_blocks.specs.declared.statement_row.StatementRow.{StatementRow}
 use Rattle.dd_blocks.specs.declared.task_row.TaskRow.{TaskRow}
-use Rattle.dd_blocks.specs.declared.what.What.{What}
-use Rattle.dd_blocks.specs.declared.what.What.TheVariants.{Put, Print, Sum, Moved, Same, Drop, MoveTo, Region}
+use Rattle.dd_blocks.specs.ArrayHomes.{AreMovedTo}
 use Rattle.dd_blocks.specs.Charges.{block_with}
 use Rattle.dd_blocks.specs.Conflicts.{reads, writes}
 use Rattle.dd_blocks.specs.Grids.{block_of, element_count}
-use Rattle.dd_blocks.specs.Homes.{home_after, row_of_region, space_moved_to, spaces_of}
+use Rattle.dd_blocks.specs.Homes.{home_after, row_of_region, spaces_of}
 use Rattle.dd_blocks.specs.Numbered.{IsNumberIn, array_row, block_row, no_task, task_row}
 use Rattle.dd_blocks.specs.WellFormed.{IsWellFormed, StatementNamesRows, TaskNamesRows}
 use Rattle.dd_blocks.proofs.GridLemmas.{block_within}
+use Rattle.dd_blocks.proofs.MovedSpacesLemmas.{IsSpaceOr, Names, home_by_last, last_move}
 use Rattle.dd_meaning.specs.Moves.{home_of, place_of}
 use Rattle.dd_meaning.specs.Versions.{Element, has}
-use Rattle.dd_plain.specs.MovesHomes.{AreHomes, AreMovedTo, HasArray, HaveArrays, home_by}
+use Rattle.dd_plain.specs.MovesHomes.{AreHomes, home_by}
 use Rattle.dd_plain.specs.MovesVisits.{IsWalkable}
 use Rattle.dd_plain.proofs.MovesHistoryLemmas.{IsHistory}
 use Rattle.dd_plain.proofs.MovesLayoutLemmas.{HasBlock, grid_of, has_block, numbered-get}
@@ -69,41 +68,6 @@ user_within plan p (suc t) some =
 
 -- ---- homes
 
--- a space of the Plan, where there is one
-abbrev IsSpaceOr : Plan → Option ℕ → Type 0
-IsSpaceOr plan None = Unit {0}
-IsSpaceOr plan (Some space) = IsNumberIn plan.spaces space
-
-moved_within : (plan : Plan) (n : ℕ) (what : What) → StatementNamesRows plan what → IsSpaceOr plan (space_moved_to n what)
-moved_within plan n (MoveTo array space) names = elim (eqb array n) as (λ (b : Bool). IsSpaceOr plan (cond b (Some space) None)) [ true ↦ names.1 | false ↦ tt ]
-moved_within plan n (Put array) names = tt
-moved_within plan n (Print array) names = tt
-moved_within plan n (Sum array name) names = tt
-moved_within plan n Moved names = tt
-moved_within plan n (Same array) names = tt
-moved_within plan n (Drop array last) names = tt
-moved_within plan n (Region region) names = tt
-
-with_one : (plan : Plan) (xs : List ℕ) (o moved : Option ℕ) → IsSpaceOr plan o → IsSpaceOr plan moved → ((p : Option ℕ) → IsSpaceOr plan p → IsSpaceOr plan (last_or p xs))
-    → IsSpaceOr plan (last_or o (cons_option moved xs))
-with_one plan xs o None inside here more = more o inside
-with_one plan xs o (Some space) inside here more = more (Some space) here
-
-last_within : (plan : Plan) (n : ℕ) (rows : List StatementRow) (o : Option ℕ) → IsSpaceOr plan o → All (λ (row : StatementRow). StatementNamesRows plan row.what) rows
-    → IsSpaceOr plan (last_or o (spaces_of n rows))
-last_within plan n [] o inside names = inside
-last_within plan n (row ∷ rows) o inside names =
-    let P : StatementRow → Type 0 = λ r. StatementNamesRows plan r.what in
-    let here = moved_within plan n row.what (All-head P row rows names) in
-    with_one plan (spaces_of n rows) o (space_moved_to n row.what) inside here (λ p q. last_within plan n rows p q (All-tail P row rows names))
-
--- the home by the last move and the home before
-home_split : (plan : Plan) (o : Option ℕ) (before : ℕ) → IsSpaceOr plan o → unwrap_or o before ≡ cond (eqb (unwrap_or o 0) 0) before (unwrap_or o 0)
-home_split plan None before inside = refl
-home_split plan (Some space) before inside =
-    let test : eqb space 0 ≡ false = grind (arith, nat_tests, inside.0) in
-    sym (ap (λ (b : Bool). cond b before space) test)
-
 unwrap_few : (plan : Plan) (o : Option ℕ) → IsSpaceOr plan o → unwrap_or o 0 ≤ length plan.spaces
 unwrap_few plan None inside = omega arith
 unwrap_few plan (Some space) inside = inside.1
@@ -111,12 +75,6 @@ unwrap_few plan (Some space) inside = inside.1
 unwrap_within : (plan : Plan) (o : Option ℕ) (before : ℕ) → IsSpaceOr plan o → IsNumberIn plan.spaces before → IsNumberIn plan.spaces (unwrap_or o before)
 unwrap_within plan None before inside within = within
 unwrap_within plan (Some space) before inside within = inside
-
-abbrev pub Names : Plan → List StatementRow → Type 0
-Names plan rows = All (λ (row : StatementRow). StatementNamesRows plan row.what) rows
-
-last_move : (plan : Plan) (n : ℕ) (rows : List StatementRow) → Names plan rows → IsSpaceOr plan (last_or None (spaces_of n rows))
-last_move plan n rows names = last_within plan n rows None tt names
 
 pub rows_above_name : (plan : Plan) → IsWellFormed plan → (i : ℕ) → Names plan (take i plan.statements)
 rows_above_name plan well i = All-take (λ (row : StatementRow). StatementNamesRows plan row.what) i plan.statements well.names.statements
@@ -133,21 +91,6 @@ are_homes plan rows homes names moved = record {
       omega (arith, is, at, few));
 }
 
--- a statement names an array that there is
-has_array : (plan : Plan) (what : What) → StatementNamesRows plan what → HasArray (length plan.arrays) what
-has_array plan (MoveTo array space) names = names.0
-has_array plan (Put array) names = tt
-has_array plan (Print array) names = tt
-has_array plan (Sum array name) names = tt
-has_array plan Moved names = tt
-has_array plan (Same array) names = tt
-has_array plan (Drop array last) names = tt
-has_array plan (Region region) names = tt
-
-pub have_arrays : (plan : Plan) (rows : List StatementRow) → Names plan rows → HaveArrays (length plan.arrays) rows
-have_arrays plan rows names =
-    All-weaker (λ (row : StatementRow). StatementNamesRows plan row.what) (λ (row : StatementRow). HasArray (length plan.arrays) row.what) (λ row n. has_array plan row.what n) rows names
-
 -- the block of an element
 element_block : (plan : Plan) → IsWellFormed plan → (e : Element) → IsNumberIn plan.arrays e.array → e.pos < element_count (array_row plan e.array).grid
     → HasBlock plan e.array (block_with plan e.array e.pos)
@@ -161,7 +104,7 @@ home_is plan well region homes e array within moved =
     let block : ℕ = block_with plan e.array e.pos in
     let found = moved.each e.array array.0 array.1 in
     ap (λ (n : ℕ). home_after n (block_row plan block).home rows) (element_block plan well e array within).array
-    ∙ home_split plan (last_or None (spaces_of e.array rows)) (block_row plan block).home (last_move plan e.array rows (rows_above_name plan well (row_of_region plan region - 1)))
+    ∙ home_by_last plan e.array (block_row plan block).home rows (rows_above_name plan well (row_of_region plan region - 1))
     ∙ sym (ap (λ (h : ℕ). cond (eqb h 0) (block_row plan block).home h) found)
 
 pub home_within : (plan : Plan) → IsWellFormed plan → (region : ℕ) (e : Element) → IsNumberIn plan.arrays e.array → e.pos < element_count (array_row plan e.array).grid

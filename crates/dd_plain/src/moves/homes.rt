@@ -1,11 +1,12 @@
 //! The homes of elements when a region begins.
 ghost use Rattle.std.specs.Prelude.{◌≡◌, ◌-◌, ◌<◌, length, take};
+ghost use Rattle.dd_blocks.specs.ArrayHomes.{AreMovedTo, HasArray, HaveArrays, homes_after};
 ghost use Rattle.dd_blocks.specs.Charges.{block_with};
 ghost use Rattle.dd_blocks.specs.Grids.{element_count};
 ghost use Rattle.dd_blocks.specs.Homes.{row_of_region, runs_region};
 ghost use Rattle.dd_blocks.specs.Numbered.{IsNumberIn, array_row, block_row};
 ghost use Rattle.dd_blocks.specs.WellFormed.{IsWellFormed};
-ghost use Rattle.dd_plain.specs.MovesHomes.{AreHomes, AreMovedTo, HasArray, HaveArrays, home_by, homes_after};
+ghost use Rattle.dd_plain.specs.MovesHomes.{AreHomes, home_by};
 ghost use Rattle.dd_plain.specs.MovesMarks.{AreSameTo, IsMarked};
 
 use crate::moves::mark::Visit;

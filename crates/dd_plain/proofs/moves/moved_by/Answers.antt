@@ -2,8 +2,8 @@ use Rattle.std.proofs.Common.{◌≡◌, ◌-◌, ℕ, List, length, take, sym, 
 use Rattle.std.specs.List.{All}
 use Rattle.dd_blocks.specs.declared.statement_row.StatementRow.{StatementRow}
 use Rattle.dd_blocks.specs.declared.task_row.TaskRow.{TaskRow}
+use Rattle.dd_blocks.specs.ArrayHomes.{AreMovedTo}
 use Rattle.dd_blocks.specs.Homes.{row_of_region}
-use Rattle.dd_plain.specs.MovesHomes.{AreMovedTo}
 use Rattle.dd_plain.specs.MovesVisits.{IsWalkable, region_visits}
 use Rattle.dd_plain.proofs.MovesMovedLemmas.{is_done, region_few, tasks_walkable}
 use Rattle.dd_plain.proofs.MovesNoneLemmas.{idle_moves_none, zero_from}

@@ -1,6 +1,6 @@
 use Rattle.std.proofs.Common.{List, length, take, ◌+◌, ℕ, sym, subst}
-use Rattle.dd_plain.specs.MovesHomes.{AreMovedTo}
-use Rattle.dd_plain.proofs.MovesHomesLemmas.{moved_more}
+use Rattle.dd_blocks.specs.ArrayHomes.{AreMovedTo}
+use Rattle.dd_blocks.proofs.ArrayHomesLemmas.{moved_more}
 use Rattle.dd_plain.proofs.moves.homes.find_homes.Goals as goal
 
 pub loop-row-preserved : goal.loop-row-preserved

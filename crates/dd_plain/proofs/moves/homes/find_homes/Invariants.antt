@@ -1,5 +1,5 @@
 use Rattle.std.proofs.Common.{length, take}
-use Rattle.dd_plain.specs.MovesHomes.{AreMovedTo}
+use Rattle.dd_blocks.specs.ArrayHomes.{AreMovedTo}
 use Rattle.dd_plain.proofs.moves.homes.find_homes.Given as goal
 
 abbrev pub invariant-loop-row : goal.invariant-loop-row
