@@ -1,39 +1,20 @@
 -- The homes of arrays, row by row.
-use Rattle.std.proofs.Common.{◌≡◌, ◌≢◌, ℕ, ◌+◌, ◌-◌, ◌<◌, ◌≤◌, Bool, true, false, eqb, cond, List, length, get_or, set, take, replicate, None, Some, refl, sym, ap, ◌∙◌, subst, arith, ⊎_elim, get_or-set_other, get_or-set_same}
+use Rattle.std.proofs.Common.{◌≡◌, ◌≢◌, ℕ, ◌+◌, ◌-◌, ◌<◌, ◌≤◌, Bool, true, false, eqb, cond, List, length, get_or, set, take, drop, replicate, None, Some, refl, sym, ap, ◌∙◌, subst, arith, ⊎_elim, get_or-set_other, get_or-set_same}
 use Rattle.std.specs.Option.{unwrap_or}
 use Rattle.std.proofs.lemmas.Bool.{cases_eq}
 use Rattle.std.proofs.lemmas.Bool.Decides.{nat_tests}
 use Rattle.std.proofs.lemmas.List.{get_or-replicate, length-replicate, length-set}
-use Rattle.std.proofs.lemmas.List.Elements.{All-get_or}
-use Rattle.std.proofs.lemmas.List.Sums.{position_or_len_is}
 use Rattle.dd_blocks.specs.declared.plan.Plan.{Plan}
 use Rattle.dd_blocks.specs.declared.statement_row.StatementRow.{StatementRow}
 use Rattle.dd_blocks.specs.declared.what.What.{What}
 use Rattle.dd_blocks.specs.declared.what.What.TheVariants.{Put, Print, Sum, Moved, Same, Drop, MoveTo, Region}
-use Rattle.dd_blocks.specs.Homes.{home_after, row_of_region, runs_region, space_moved_to}
+use Rattle.dd_blocks.specs.Homes.{space_moved_to}
+use Rattle.dd_blocks.specs.Layout.{elements_in}
 use Rattle.dd_blocks.proofs.HomesLemmas.{home_more}
-use Rattle.dd_plain.specs.MovesHomes.{AreMovedTo, HasArray, HaveArrays, homes_after}
-
--- the rows before the first that runs the region
-pub above_first : (plan : Plan) (region i : ℕ) → i < length plan.statements
-    → ((k : ℕ) (d : StatementRow) → k < i → runs_region region (get_or plan.statements k d).what ≡ false)
-    → ((d : StatementRow) → runs_region region (get_or plan.statements i d).what ≡ true)
-    → i ≡ row_of_region plan region - 1
-above_first plan region i lt before here =
-    let none : StatementRow = record { line = 0; what = Moved } in
-    let p : StatementRow → Bool = λ row. runs_region region row.what in
-    let at = position_or_len_is p plan.statements i none (omega arith) (λ k l. before k none l) (λ l. here none) in
-    omega (arith, at)
-
--- where no row runs it, all rows stand above
-pub above_none : (plan : Plan) (region i : ℕ) → length plan.statements ≤ i
-    → ((k : ℕ) (d : StatementRow) → k < i → runs_region region (get_or plan.statements k d).what ≡ false)
-    → length plan.statements ≤ row_of_region plan region - 1
-above_none plan region i le before =
-    let none : StatementRow = record { line = 0; what = Moved } in
-    let p : StatementRow → Bool = λ row. runs_region region row.what in
-    let at = position_or_len_is p plan.statements (length plan.statements) none (omega arith) (λ k l. before k none (omega arith)) (λ l. absurd (omega arith)) in
-    omega (arith, at)
+use Rattle.dd_plain.specs.declared.moves.Moves.{Moves}
+use Rattle.dd_plain.specs.MovesHomes.{AreMovedTo, HasArray, homes_after}
+use Rattle.dd_plain.specs.MovesRest.{IsAtRest, NoneAsks}
+use Rattle.dd_plain.specs.RegionRows.{RunsAt}
 
 stays : (arrays n : ℕ) (homes : List ℕ) (what : What) → length homes ≡ arrays → 1 ≤ n → n ≤ arrays → HasArray arrays what
     → get_or (homes_after homes what) (n - 1) 0 ≡ unwrap_or (space_moved_to n what) (get_or homes (n - 1) 0)
@@ -75,15 +56,31 @@ moved_none arrays rows = record {
   each = λ n low high. get_or-replicate arrays (n - 1) 0 0 (omega arith);
 }
 
-pub moved_more : (arrays : ℕ) (rows : List StatementRow) (homes : List ℕ) (i : ℕ) (row : StatementRow) → i < length rows → HaveArrays arrays rows
-    → row ≡ get_or rows i row → AreMovedTo arrays (take i rows) homes → AreMovedTo arrays (take (i + 1) rows) (homes_after homes row.what)
-moved_more arrays rows homes i row lt have is moved =
-    let has : HasArray arrays row.what = subst (λ (r : StatementRow). HasArray arrays r.what) (sym is) (All-get_or (λ (r : StatementRow). HasArray arrays r.what) rows i row lt have) in
+pub moved_more : (arrays : ℕ) (rows : List StatementRow) (homes : List ℕ) (i : ℕ) (d : StatementRow) → i < length rows → HasArray arrays (get_or rows i d).what
+    → AreMovedTo arrays (take i rows) homes → AreMovedTo arrays (take (i + 1) rows) (homes_after homes (get_or rows i d).what)
+moved_more arrays rows homes i d lt has moved =
+    let row : StatementRow = get_or rows i d in
     record {
       count = length_after homes row.what ∙ moved.count;
       each = λ n low high.
           stays arrays n homes row.what moved.count low high has
           ∙ ap (unwrap_or (space_moved_to n row.what)) (moved.each n low high)
-          ∙ ap (λ (r : StatementRow). unwrap_or (space_moved_to n r.what) (home_after n 0 (take i rows))) is
-          ∙ sym (home_more n 0 rows i row lt);
+          ∙ sym (home_more n 0 rows i d lt);
     }
+
+-- a row that runs a region moves no array
+pub moved_past : (plan : Plan) (i region : ℕ) (homes : List ℕ) → RunsAt plan i region → AreMovedTo (length plan.arrays) (take i plan.statements) homes
+    → AreMovedTo (length plan.arrays) (take (i + 1) plan.statements) homes
+moved_past plan i region homes runs moved =
+    let none : StatementRow = record { line = 0; what = Moved } in
+    let has : HasArray (length plan.arrays) (get_or plan.statements i none).what = subst (HasArray (length plan.arrays)) (sym runs.what) tt in
+    subst (AreMovedTo (length plan.arrays) (take (i + 1) plan.statements)) (ap (homes_after homes) runs.what) (moved_more (length plan.arrays) plan.statements homes i none runs.within has moved)
+
+-- what is kept below a row that runs a region
+pub rest_past : (plan : Plan) (i region : ℕ) (old new : Moves) → RunsAt plan i region → IsAtRest plan i old → new.asked ≡ old.asked → new.homes.items ≡ old.homes.items
+    → (1 < length plan.spaces → i < old.asked → new.marks.items ≡ replicate (elements_in plan.arrays) 0) → IsAtRest plan (i + 1) new
+rest_past plan i region old new runs rest asked homes marks = record {
+  last = subst (λ (n : ℕ). NoneAsks (drop n plan.statements)) (sym asked) rest.last;
+  unmarked = λ some less. marks some (omega (arith, less, asked));
+  homes = subst (AreMovedTo (length plan.arrays) (take (i + 1) plan.statements)) (sym homes) (moved_past plan i region old.homes.items runs rest.homes);
+}

@@ -5,7 +5,7 @@ use Rattle.std.specs.List.{All, cons_option, last_or, list_any}
 use Rattle.std.proofs.lemmas.Bool.{cases_lt}
 use Rattle.std.proofs.lemmas.Bool.Decides.{nat_tests}
 use Rattle.std.proofs.lemmas.List.{get_or_past}
-use Rattle.std.proofs.lemmas.List.Elements.{All-from_get_or, All-get_or, All-head, All-tail, All-take, All-weaker}
+use Rattle.std.proofs.lemmas.List.Elements.{All-from_get_or, All-get_or, All-head, All-tail, All-take}
 use Rattle.dd_blocks.specs.declared.access_row.AccessRow.{AccessRow}
 use Rattle.dd_blocks.specs.declared.block_row.BlockRow.{BlockRow}
 use Rattle.dd_blocks.specs.declared.plan.Plan.{Plan}
@@ -23,7 +23,7 @@ use Rattle.dd_blocks.specs.WellFormed.{IsWellFormed, StatementNamesRows, TaskNam
 use Rattle.dd_blocks.proofs.GridLemmas.{block_within}
 use Rattle.dd_meaning.specs.Moves.{home_of, place_of}
 use Rattle.dd_meaning.specs.Versions.{Element, has}
-use Rattle.dd_plain.specs.MovesHomes.{AreHomes, AreMovedTo, HasArray, HaveArrays, home_by}
+use Rattle.dd_plain.specs.MovesHomes.{AreHomes, AreMovedTo, HasArray, home_by}
 use Rattle.dd_plain.specs.MovesVisits.{IsWalkable}
 use Rattle.dd_plain.proofs.MovesHistoryLemmas.{IsHistory}
 use Rattle.dd_plain.proofs.MovesLayoutLemmas.{HasBlock, grid_of, has_block, numbered-get}
@@ -134,7 +134,7 @@ are_homes plan rows homes names moved = record {
 }
 
 -- a statement names an array that there is
-has_array : (plan : Plan) (what : What) → StatementNamesRows plan what → HasArray (length plan.arrays) what
+pub has_array : (plan : Plan) (what : What) → StatementNamesRows plan what → HasArray (length plan.arrays) what
 has_array plan (MoveTo array space) names = names.0
 has_array plan (Put array) names = tt
 has_array plan (Print array) names = tt
@@ -143,10 +143,6 @@ has_array plan Moved names = tt
 has_array plan (Same array) names = tt
 has_array plan (Drop array last) names = tt
 has_array plan (Region region) names = tt
-
-pub have_arrays : (plan : Plan) (rows : List StatementRow) → Names plan rows → HaveArrays (length plan.arrays) rows
-have_arrays plan rows names =
-    All-weaker (λ (row : StatementRow). StatementNamesRows plan row.what) (λ (row : StatementRow). HasArray (length plan.arrays) row.what) (λ row n. has_array plan row.what n) rows names
 
 -- the block of an element
 element_block : (plan : Plan) → IsWellFormed plan → (e : Element) → IsNumberIn plan.arrays e.array → e.pos < element_count (array_row plan e.array).grid

@@ -5,5 +5,6 @@ pub mod Lending
 pub mod MovesMarks
 pub mod MovesHomes
 pub mod MovesVisits
-pub mod Rows
+pub mod RegionRows
 pub mod MovesRest
+pub mod Rows

@@ -41,9 +41,6 @@ abbrev pub HasArray : ℕ → What → Type 0
 HasArray arrays (MoveTo array space) = (1 ≤ array) × (array ≤ arrays)
 HasArray arrays _ = Unit {0}
 
-abbrev pub HaveArrays : ℕ → List StatementRow → Type 0
-HaveArrays arrays rows = All (λ (row : StatementRow). HasArray arrays row.what) rows
-
 -- the spaces of the arrays after a statement
 abbrev pub homes_after : List ℕ → What → List ℕ
 homes_after homes (MoveTo array space) = slice_set homes (array - 1) space

@@ -11,8 +11,9 @@
 //!
 //! The values of each array are one vector, column by column. A task that has all of an array, which none of its other
 //! accesses uses, is lent the vector, without a copy; other accesses are gathered column by column, and stored back
-//! where they are written, in their order. Besides the vectors a run takes a byte for each element, which counts where
-//! the element is, the buffers of one task, and room for one line of the text. Each line is one `write_all`.
+//! where they are written, in their order. Besides the vectors a run takes the buffers of one task, room for one line of
+//! the text, and where a row prints what was moved and there are several spaces, a byte for each element, which says
+//! where the element is. Each line is one `write_all`.
 //!
 //! Inside, `world` fills the arrays, `gathering` and `storing` walk a view over an array, `lending` says which arrays a
 //! task may have whole, `task` runs tasks, `tasks` finds those of a region, `moves` counts what a region moves,

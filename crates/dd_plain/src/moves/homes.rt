@@ -1,52 +1,17 @@
-//! The homes of elements when a region begins.
-ghost use Rattle.std.specs.Prelude.{◌≡◌, ◌-◌, ◌<◌, length, take};
+//! The homes of elements.
+ghost use Rattle.std.specs.Prelude.{◌≡◌, ◌<◌, length};
 ghost use Rattle.dd_blocks.specs.Charges.{block_with};
 ghost use Rattle.dd_blocks.specs.Grids.{element_count};
-ghost use Rattle.dd_blocks.specs.Homes.{row_of_region, runs_region};
 ghost use Rattle.dd_blocks.specs.Numbered.{IsNumberIn, array_row, block_row};
 ghost use Rattle.dd_blocks.specs.WellFormed.{IsWellFormed};
-ghost use Rattle.dd_plain.specs.MovesHomes.{AreHomes, AreMovedTo, HasArray, HaveArrays, home_by, homes_after};
+ghost use Rattle.dd_plain.specs.MovesHomes.{AreHomes, HasArray, home_by, homes_after};
 ghost use Rattle.dd_plain.specs.MovesMarks.{AreSameTo, IsMarked};
 
 use crate::moves::mark::Visit;
-use dd_blocks::{ArrayRow, Plan, StatementRow, What};
-
-/// The rows above that of a region, or all rows where there is none.
-pub(super) fn rows_above(plan: &Plan, region: u32) -> &[StatementRow]
-    ensures { result.now ≡ take (row_of_region plan.now region - 1) plan.now.statements }
-{
-    let rows = plan.statements.as_slice();
-    for (i, row) in rows.iter().enumerate() {
-        if runs(&row.what, region) {
-            return &rows[..i];
-        }
-    }
-    rows
-}
-
-/// Whether a statement runs the region.
-fn runs(what: &What, region: u32) -> bool
-    ensures { result ≡ runs_region region what.now }
-{
-    match what {
-        What::Region(run) => *run == region,
-        _ => false,
-    }
-}
-
-/// Puts the space to which the last of the rows moved each array into `homes`, or 0.
-pub(super) fn find_homes(homes: &mut [u32], rows: &[StatementRow])
-    requires { HaveArrays (length homes.old) rows.now }
-    ensures { AreMovedTo (length homes.old) rows.now homes.new }
-{
-    homes.fill(0);
-    for row in rows {
-        move_home(homes, &row.what);
-    }
-}
+use dd_blocks::{ArrayRow, Plan, What};
 
 /// Puts the space into `homes` to which a statement moves an array, where it does.
-fn move_home(homes: &mut [u32], what: &What)
+pub(super) fn move_home(homes: &mut [u32], what: &What)
     requires { HasArray (length homes.old) what.now }
     ensures { homes.new ≡ homes_after homes.old what.now }
 {
