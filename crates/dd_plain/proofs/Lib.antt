@@ -24,3 +24,4 @@ pub mod MovesRunsLemmas
 pub mod RegionLemmas
 pub mod RowLemmas
 pub mod MovesNoneLemmas
+pub mod MovesColumnsLemmas

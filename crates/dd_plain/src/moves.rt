@@ -5,6 +5,9 @@
 //! there. At the end the elements of the views are left, and those that their homes do not hold are moved home. Elements
 //! that no task of the region uses are not looked at. Where there is one space, or no row below prints what was moved,
 //! nothing is marked. The homes of arrays that statements move are kept from row to row.
+//!
+//! A column of neighbours is walked in runs of elements that have one home, each a plain loop over a slice of the marks;
+//! one in other steps goes element by element.
 ghost use Rattle.std.specs.Prelude.{◌≡◌, ◌+◌, ◌^◌, ◌<◌, ◌≤◌, IfOk, drop, length};
 ghost use Rattle.dd_blocks.specs.Layout.{elements_in};
 ghost use Rattle.dd_blocks.specs.Lives.{tasks_of};
@@ -13,6 +16,7 @@ ghost use Rattle.dd_meaning.specs.Moves.{moved};
 ghost use Rattle.dd_plain.specs.MovesHomes.{HasArray, homes_after};
 ghost use Rattle.dd_plain.specs.MovesRest.{NoneAsks};
 
+mod columns;
 mod homes;
 mod mark;
 mod walk;
