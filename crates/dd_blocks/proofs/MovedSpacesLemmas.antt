@@ -17,7 +17,7 @@ abbrev pub Names : Plan → List StatementRow → Type 0
 Names plan rows = All (λ (row : StatementRow). StatementNamesRows plan row.what) rows
 
 -- a statement names an array that there is
-has_array : (plan : Plan) (what : What) → StatementNamesRows plan what → HasArray (length plan.arrays) what
+pub has_array : (plan : Plan) (what : What) → StatementNamesRows plan what → HasArray (length plan.arrays) what
 has_array plan (MoveTo array space) names = names.0
 has_array plan (Put array) names = tt
 has_array plan (Print array) names = tt

@@ -28,3 +28,4 @@ pub mod RegionLemmas
 pub mod RowLemmas
 pub mod MovesNoneLemmas
 pub mod BandLemmas
+pub mod MovesColumnsLemmas

@@ -1,28 +1,36 @@
--- The rows above the first that runs a region.
-use Rattle.std.proofs.Common.{◌≡◌, ℕ, ◌-◌, ◌<◌, ◌≤◌, Bool, true, false, length, get_or, arith}
-use Rattle.std.proofs.lemmas.List.Sums.{position_or_len_is}
+-- The homes of arrays, row by row.
+use Rattle.std.proofs.Common.{◌≡◌, ℕ, ◌+◌, ◌<◌, List, [], ◌∷◌, ◌++◌, length, get_or, take, drop, replicate, sym, ap, subst, arith}
+use Rattle.std.proofs.lemmas.List.{take_more}
 use Rattle.dd_blocks.specs.declared.plan.Plan.{Plan}
 use Rattle.dd_blocks.specs.declared.statement_row.StatementRow.{StatementRow}
 use Rattle.dd_blocks.specs.declared.what.What.TheVariants.{Moved}
-use Rattle.dd_blocks.specs.Homes.{row_of_region, runs_region}
+use Rattle.dd_blocks.specs.ArrayHomes.{AreMovedTo, HasArray, homes_after}
+use Rattle.dd_blocks.specs.Layout.{elements_in}
+use Rattle.dd_blocks.proofs.ArrayHomesLemmas.{moved_push}
+use Rattle.dd_plain.specs.declared.moves.Moves.{Moves}
+use Rattle.dd_plain.specs.MovesRest.{IsAtRest, NoneAsks}
+use Rattle.dd_plain.specs.RegionRows.{RunsAt}
 
--- the rows before the first that runs the region
-pub above_first : (plan : Plan) (region i : ℕ) → i < length plan.statements
-    → ((k : ℕ) (d : StatementRow) → k < i → runs_region region (get_or plan.statements k d).what ≡ false)
-    → ((d : StatementRow) → runs_region region (get_or plan.statements i d).what ≡ true)
-    → i ≡ row_of_region plan region - 1
-above_first plan region i lt before here =
-    let none : StatementRow = record { line = 0; what = Moved } in
-    let p : StatementRow → Bool = λ row. runs_region region row.what in
-    let at = position_or_len_is p plan.statements i none (omega arith) (λ k l. before k none l) (λ l. here none) in
-    omega (arith, at)
+-- after the next row
+pub moved_next : (arrays : ℕ) (rows : List StatementRow) (homes : List ℕ) (i : ℕ) (d : StatementRow) → i < length rows → HasArray arrays (get_or rows i d).what
+    → AreMovedTo arrays (take i rows) homes → AreMovedTo arrays (take (i + 1) rows) (homes_after homes (get_or rows i d).what)
+moved_next arrays rows homes i d lt has moved =
+    let row : StatementRow = get_or rows i d in
+    subst (λ (above : List StatementRow). AreMovedTo arrays above (homes_after homes row.what)) (sym (take_more rows i d lt)) (moved_push arrays (take i rows) homes row has moved)
 
--- where no row runs it, all rows stand above
-pub above_none : (plan : Plan) (region i : ℕ) → length plan.statements ≤ i
-    → ((k : ℕ) (d : StatementRow) → k < i → runs_region region (get_or plan.statements k d).what ≡ false)
-    → length plan.statements ≤ row_of_region plan region - 1
-above_none plan region i le before =
+-- a row that runs a region moves no array
+pub moved_past : (plan : Plan) (i region : ℕ) (homes : List ℕ) → RunsAt plan i region → AreMovedTo (length plan.arrays) (take i plan.statements) homes
+    → AreMovedTo (length plan.arrays) (take (i + 1) plan.statements) homes
+moved_past plan i region homes runs moved =
     let none : StatementRow = record { line = 0; what = Moved } in
-    let p : StatementRow → Bool = λ row. runs_region region row.what in
-    let at = position_or_len_is p plan.statements (length plan.statements) none (omega arith) (λ k l. before k none (omega arith)) (λ l. absurd (omega arith)) in
-    omega (arith, at)
+    let has : HasArray (length plan.arrays) (get_or plan.statements i none).what = subst (HasArray (length plan.arrays)) (sym runs.what) tt in
+    subst (AreMovedTo (length plan.arrays) (take (i + 1) plan.statements)) (ap (homes_after homes) runs.what) (moved_next (length plan.arrays) plan.statements homes i none runs.within has moved)
+
+-- what is kept below a row that runs a region
+pub rest_past : (plan : Plan) (i region : ℕ) (old new : Moves) → RunsAt plan i region → IsAtRest plan i old → new.asked ≡ old.asked → new.homes.items ≡ old.homes.items
+    → (1 < length plan.spaces → i < old.asked → new.marks.items ≡ replicate (elements_in plan.arrays) 0) → IsAtRest plan (i + 1) new
+rest_past plan i region old new runs rest asked homes marks = record {
+  last = subst (λ (n : ℕ). NoneAsks (drop n plan.statements)) (sym asked) rest.last;
+  unmarked = λ some less. marks some (omega (arith, less, asked));
+  homes = subst (AreMovedTo (length plan.arrays) (take (i + 1) plan.statements)) (sym homes) (moved_past plan i region old.homes.items runs rest.homes);
+}

@@ -1,22 +1,19 @@
--- Where there is one space, or a region has no task, nothing moves.
+-- Where there is one space, nothing moves.
 use Rattle.std.proofs.Common.{◌≡◌, ℕ, ◌<◌, Bool, true, false, eqb, cond, not, ◌&&◌, ◌||◌, List, [], ◌∷◌, length, refl, sym, ap, ◌∙◌, subst, arith, ⊎_elim}
-use Rattle.std.specs.List.{All, count_by, filter, list_any, range_with_len, sum_by}
+use Rattle.std.specs.List.{All, count_by, list_any, range_with_len, sum_by}
 use Rattle.std.proofs.lemmas.Bool.{cases_eq}
 use Rattle.std.proofs.lemmas.Bool.Decides.{nat_tests}
-use Rattle.std.proofs.lemmas.List.{length-map, nil_from_length}
 use Rattle.std.proofs.lemmas.List.Elements.{All-head, All-tail}
 use Rattle.std.proofs.lemmas.List.Sums.{sum_by-cons}
 use Rattle.dd_blocks.specs.declared.plan.Plan.{Plan}
 use Rattle.dd_blocks.specs.Grids.{element_count}
-use Rattle.dd_blocks.specs.Lives.{tasks_of}
-use Rattle.dd_blocks.specs.Numbered.{IsNumberIn, array_row, task_row}
+use Rattle.dd_blocks.specs.Numbered.{IsNumberIn, array_row}
 use Rattle.dd_blocks.specs.WellFormed.{IsWellFormed}
 use Rattle.dd_meaning.specs.Moves.{home_of, is_kept_in, is_read_in, moved, moves_in_array, moves_of, moves_of_version, moves_to, place_of, source_of, versions_in}
-use Rattle.dd_meaning.specs.Versions.{Element, last_version, needed_version, opening_version, task_reads, task_writes, tasks_in}
+use Rattle.dd_meaning.specs.Versions.{Element, tasks_in}
 use Rattle.dd_plain.proofs.MovesMovedLemmas.{region_numbers}
 use Rattle.dd_plain.proofs.MovesPlanLemmas.{home_within, place_within}
 use Rattle.dd_plain.proofs.MovesSumsLemmas.{sum_zero}
-use Rattle.dd_plain.proofs.MovesVersionsLemmas.{tasks_of_numbered}
 
 -- what holds of all numbers of a list holds of one that is found among them
 found_among : (P : ℕ → Type 0) (v : ℕ) (ts : List ℕ) → All P ts → list_any (λ t. eqb t v) ts ≡ true → P v
@@ -58,41 +55,3 @@ nothing_moves plan well region one =
     let home = home_within plan well region e array (let lt : p < element_count (array_row plan n).grid = omega arith in lt) in
     let at_home : home_of plan region e ≡ 1 = omega (arith, home.0, home.1, one) in
     sum_none (moves_of_version plan region e) (versions_in plan region e) (version_stays plan well region e one at_home)))
-
--- ---- no task
-
--- of these tasks, one that runs in the space finds the version and reads it
-abbrev is_read_among : Plan → Element → ℕ → ℕ → List ℕ → Bool
-is_read_among plan e version space ts =
-    list_any (λ t. eqb (place_of plan t) space && task_reads (task_row plan t) e && eqb (needed_version plan e t) version) ts
-
-home_stays : (h o : Bool) → not h && (false || (h && o)) ≡ false
-home_stays true o = refl
-home_stays false o = refl
-
-idle_stays : (plan : Plan) (region : ℕ) (e : Element) → tasks_in plan region ≡ [] → moves_of plan region e ≡ 0
-idle_stays plan region e idle =
-    let home : ℕ = home_of plan region e in
-    let v : ℕ = opening_version plan region e in
-    let one : moves_of_version plan region e v ≡ 0 =
-    sum_zero (λ s. cond (moves_to plan region e v s) 1 0) 1 (length plan.spaces)
-    (λ s l h.
-    ap (λ (ts : List ℕ). cond (not (eqb (cond (list_any (λ t. eqb t v) ts) (place_of plan v) home) s) && (is_read_among plan e v s ts || is_kept_in plan region e v s)) 1 0) idle
-    ∙ ap (λ (b : Bool). cond b 1 0) (home_stays (eqb home s) (eqb (last_version plan region e) v))) in
-    ap (λ (ts : List ℕ). sum_by (moves_of_version plan region e) (v ∷ filter (λ t. task_writes (task_row plan t) e) ts)) idle ∙ omega (arith, one)
-
-pub idle_moves_none : (plan : Plan) (region : ℕ) → length (tasks_of plan region) ≡ 0 → moved plan region ≡ 0
-idle_moves_none plan region none =
-    let many = ap length (tasks_of_numbered plan region) ∙ length-map (tasks_in plan region) (task_row plan) in
-    let idle : tasks_in plan region ≡ [] = nil_from_length (tasks_in plan region) (omega (arith, none, many)) in
-    sum_zero (moves_in_array plan region) 1 (length plan.arrays)
-    (λ n low high.
-    sum_zero (λ p. moves_of plan region (record { array = n; pos = p })) 0 (element_count (array_row plan n).grid)
-    (λ p l h. idle_stays plan region (record { array = n; pos = p }) idle))
-
-pub zero_from : (n : ℕ) → eqb n 0 ≡ true → n ≡ 0
-zero_from n e =
-    ⊎_elim
-    (λ (none : n ≡ 0). none)
-    (λ (some : n ≡ 0 → ⊥). let test : eqb n 0 ≡ false = grind (arith, nat_tests) in absurd (let wrong : true ≡ false = sym e ∙ test in cc))
-    (cases_eq n 0)

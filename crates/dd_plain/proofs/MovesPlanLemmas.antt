@@ -4,7 +4,7 @@ use Rattle.std.specs.Option.{unwrap_or}
 use Rattle.std.specs.List.{last_or, list_any}
 use Rattle.std.proofs.lemmas.Bool.{cases_lt}
 use Rattle.std.proofs.lemmas.List.{get_or_past}
-use Rattle.std.proofs.lemmas.List.Elements.{All-from_get_or, All-get_or, All-take}
+use Rattle.std.proofs.lemmas.List.Elements.{All-from_get_or, All-get_or, All-head, All-tail, All-take}
 use Rattle.dd_blocks.specs.declared.access_row.AccessRow.{AccessRow}
 use Rattle.dd_blocks.specs.declared.block_row.BlockRow.{BlockRow}
 use Rattle.dd_blocks.specs.declared.plan.Plan.{Plan}
@@ -22,6 +22,7 @@ use Rattle.dd_blocks.proofs.GridLemmas.{block_within}
 use Rattle.dd_blocks.proofs.MovedSpacesLemmas.{IsSpaceOr, Names, home_by_last, last_move}
 use Rattle.dd_meaning.specs.Moves.{home_of, place_of}
 use Rattle.dd_meaning.specs.Versions.{Element, has}
+use Rattle.dd_blocks.specs.ArrayHomes.{HasArray}
 use Rattle.dd_plain.specs.MovesHomes.{AreHomes, home_by}
 use Rattle.dd_plain.specs.MovesVisits.{IsWalkable}
 use Rattle.dd_plain.proofs.MovesHistoryLemmas.{IsHistory}

@@ -1,5 +1,5 @@
 -- Rows, regions and their tasks in a well-formed Plan.
-use Rattle.std.proofs.Common.{◌≡◌, ℕ, zero, suc, ◌+◌, ◌-◌, ◌^◌, ◌<◌, ◌≤◌, true, false, cond, eqb, leb, Option, None, Some, List, [], ◌∷◌, ◌++◌, length, map, take, drop, get_or, refl, sym, ap, subst, ◌∙◌, arith, ⊎_elim}
+use Rattle.std.proofs.Common.{◌≡◌, ℕ, zero, suc, ◌+◌, ◌-◌, ◌^◌, ◌<◌, ◌≤◌, Bool, true, false, cond, eqb, leb, Option, None, Some, List, [], ◌∷◌, ◌++◌, length, map, take, drop, get_or, refl, sym, ap, subst, ◌∙◌, arith, ⊎_elim}
 use Rattle.std.specs.List.{All, count_by, filter, fold, range_with_len, sum_by}
 use Rattle.std.specs.List.Sorted.{IsNonDecreasingBy}
 use Rattle.std.proofs.lemmas.Bool.{cases_lt}
@@ -7,13 +7,16 @@ use Rattle.std.proofs.lemmas.Bool.Decides.{nat_tests}
 use Rattle.std.proofs.lemmas.List.{append-nil, append_assoc, get_or_default, length-append, take-append-drop}
 use Rattle.std.proofs.lemmas.List.Elements.{All-filter, filter_map-append}
 use Rattle.std.proofs.lemmas.List.FromFn.{get_or-range_with_len, length-map-range_with_len}
-use Rattle.std.proofs.lemmas.List.Sums.{fold-append, sum_by-cons, sum_by_push, get_or-le-sum_by}
+use Rattle.std.proofs.lemmas.List.Sums.{fold-append, get_or-le-sum_by, position_or_len_is, sum_by-cons, sum_by_push}
 use Rattle.std.proofs.Math.Seq.{get_or-append_seam, take-suc}
 use Rattle.dd_blocks.specs.declared.array_row.ArrayRow.{ArrayRow}
 use Rattle.dd_blocks.specs.declared.plan.Plan.{Plan}
 use Rattle.dd_blocks.specs.declared.statement_row.StatementRow.{StatementRow}
 use Rattle.dd_blocks.specs.declared.task_row.TaskRow.{TaskRow}
+use Rattle.dd_blocks.specs.declared.what.What.{What}
+use Rattle.dd_blocks.specs.declared.what.What.TheVariants.{Put, Print, Sum, Moved, Same, Drop, MoveTo, Region}
 use Rattle.dd_blocks.specs.Grids.{element_count}
+use Rattle.dd_blocks.specs.Homes.{row_of_region, runs_region}
 use Rattle.dd_blocks.specs.Lives.{region_run, regions_run, tasks_of}
 use Rattle.dd_blocks.specs.Numbered.{IsNumberIn, numbered, no_array, no_task}
 use Rattle.dd_blocks.specs.WellFormed.{IsWellFormed}
@@ -21,6 +24,8 @@ use Rattle.dd_meaning.specs.Steps.{step, world_after}
 use Rattle.dd_meaning.specs.Text.{regions_above}
 use Rattle.dd_meaning.specs.Versions.{tasks_through}
 use Rattle.dd_meaning.specs.Worlds.{World, filled, filled_world}
+use Rattle.dd_blocks.specs.ArrayHomes.{AreMovedTo}
+use Rattle.dd_plain.specs.RegionRows.{RunsAt, next_region}
 use Rattle.dd_plain.specs.Sizes.{CanRun, HasSizes}
 use Rattle.dd_kernels.proofs.ListsLemmas.{ap2}
 use Rattle.dd_views.proofs.ListsLemmas.{range_with_len_more}
@@ -178,10 +183,67 @@ above_region plan i d region well lt some =
     ∙ get_or-range_with_len 1 (length (regions_run plan.statements)) (length (regions_run (take i plan.statements))) 0 long ∙ omega arith in
     (found, ap length next ∙ length-append (regions_run (take i plan.statements)) (region ∷ []) ∙ omega (arith, found))
 
+-- further down stand no fewer regions
+above_one : (plan : Plan) (i : ℕ) → i < length plan.statements → regions_above plan i ≤ regions_above plan (i + 1)
+above_one plan i lt =
+    let none : StatementRow = record { line = 0; what = Moved } in
+    let next = ap length (above_next plan.statements i none lt) in
+    omega (arith, next, length-append (regions_run (take i plan.statements)) (regions_run (get_or plan.statements i none ∷ [])))
+
+above_le : (plan : Plan) (a n : ℕ) → a + n ≤ length plan.statements → regions_above plan a ≤ regions_above plan (a + n)
+above_le plan a zero le = let e : a + 0 ≡ a = omega arith in omega (arith, ap (regions_above plan) e)
+above_le plan a (suc n) le =
+    let e : a + suc n ≡ a + n + 1 = omega arith in
+    omega (arith, ap (regions_above plan) e, above_le plan a n (omega arith), above_one plan (a + n) (omega arith))
+
+-- the region of a row is the next, and there is no other row of it
+pub runs_next : (plan : Plan) (i region : ℕ) → IsWellFormed plan → RunsAt plan i region → (region ≡ next_region plan i) × (regions_above plan (i + 1) ≡ region)
+runs_next plan i region well runs =
+    let none : StatementRow = record { line = 0; what = Moved } in
+    let above = above_region plan i none region well runs.within (ap region_run runs.what) in
+    (omega (arith, above.0), above.1)
+
+runs_some : (what : What) (region : ℕ) → runs_region region what ≡ true → region_run what ≡ Some region
+runs_some (Region run) region is = let e : run ≡ region = grind (arith, nat_tests) in ap (λ (n : ℕ). Some n) e
+runs_some (Put array) region is = absurd (cc)
+runs_some (Print array) region is = absurd (cc)
+runs_some (Sum array name) region is = absurd (cc)
+runs_some Moved region is = absurd (cc)
+runs_some (Same array) region is = absurd (cc)
+runs_some (Drop array last) region is = absurd (cc)
+runs_some (MoveTo array space) region is = absurd (cc)
+
+false_by : (b : Bool) → (b ≡ true → ⊥) → b ≡ false
+false_by true never = absurd (never refl)
+false_by false never = refl
+
+pub row_of : (plan : Plan) (i region : ℕ) → IsWellFormed plan → RunsAt plan i region → row_of_region plan region ≡ i + 1
+row_of plan i region well runs =
+    let none : StatementRow = record { line = 0; what = Moved } in
+    let p : StatementRow → Bool = λ row. runs_region region row.what in
+    let here : p (get_or plan.statements i none) ≡ true = ap (runs_region region) runs.what ∙ (let same : eqb region region ≡ true = grind (arith, nat_tests) in same) in
+    let next = runs_next plan i region well runs in
+    let before : (k : ℕ) → k < i → p (get_or plan.statements k none) ≡ false =
+    λ k lt.
+    false_by (p (get_or plan.statements k none))
+    (λ is.
+    let first = (above_region plan k none region well (omega (arith, lt, runs.within)) (runs_some (get_or plan.statements k none).what region is)).1 in
+    let less = above_le plan (k + 1) (i - (k + 1)) (omega (arith, lt, runs.within)) in
+    let e : k + 1 + (i - (k + 1)) ≡ i = omega arith in
+    absurd (omega (arith, first, less, next.0, ap (regions_above plan) e))) in
+    let at = position_or_len_is p plan.statements i none (omega (arith, runs.within)) before (λ l. here) in
+    omega (arith, at)
+
+-- the homes after the rows above a region are those with which it begins
+pub homes_of_region : (plan : Plan) (i region : ℕ) (homes items : List ℕ) → IsWellFormed plan → RunsAt plan i region → AreMovedTo (length plan.arrays) (take i plan.statements) items
+    → homes ≡ items → AreMovedTo (length plan.arrays) (take (row_of_region plan region - 1) plan.statements) homes
+homes_of_region plan i region homes items well runs moved is =
+    let above : i ≡ row_of_region plan region - 1 = omega (arith, row_of plan i region well runs) in
+    subst (λ (n : ℕ). AreMovedTo (length plan.arrays) (take n plan.statements) homes) above (subst (AreMovedTo (length plan.arrays) (take i plan.statements)) (sym is) moved)
+
 -- one number more of a sum
 sum_next : (f : ℕ → ℕ) (n : ℕ) → sum_by f (range_with_len 1 (suc n)) ≡ sum_by f (range_with_len 1 n) + f (suc n)
 sum_next f n = ap (sum_by f) (range_with_len_more 1 n) ∙ sum_by_push f (range_with_len 1 n) (1 + n) ∙ ap (λ (x : ℕ). sum_by f (range_with_len 1 n) + f x) (omega arith)
 
-pub sum_before : (f : ℕ → ℕ) (n : ℕ) → 1 ≤ n → sum_by f (range_with_len 1 (n - 1)) + f n ≡ sum_by f (range_with_len 1 n)
-sum_before f zero low = absurd (omega arith)
-sum_before f (suc n) low = let same : suc n - 1 ≡ n = omega arith in rw same (sym (sum_next f n))
+pub sum_with : (f : ℕ → ℕ) (n : ℕ) → sum_by f (range_with_len 1 n) + f (n + 1) ≡ sum_by f (range_with_len 1 (n + 1))
+sum_with f n = let next : n + 1 ≡ suc n = omega arith in rw next (sym (sum_next f n))

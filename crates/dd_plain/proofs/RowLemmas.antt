@@ -1,7 +1,10 @@
 -- A row of the statements and what it prints.
-use Rattle.std.proofs.Common.{◌≡◌, ℕ, ◌-◌, ◌<◌, ℤ, None, Some, Result, Ok, Err, OnOk, List, length, get_or, refl, sym, ap, subst, ◌∙◌, arith}
+use Rattle.std.proofs.Common.{◌≡◌, ℕ, ◌+◌, ◌-◌, ◌<◌, ◌≤◌, ℤ, None, Some, Result, Ok, Err, OnOk, List, length, get_or, take, drop, refl, sym, ap, subst, ◌∙◌, arith, ⊎_elim}
+use Rattle.std.specs.List.{range_with_len, sum_by}
 use Rattle.std.specs.Global.{Vec}
-use Rattle.std.proofs.lemmas.List.{get_or_default}
+use Rattle.std.proofs.lemmas.Bool.{cases_lt}
+use Rattle.std.proofs.lemmas.List.{get_or-drop, get_or_default, length-drop, length-map}
+use Rattle.std.proofs.lemmas.List.Elements.{All-get_or}
 use Rattle.dd_kernels.proofs.ListsLemmas.{ap2}
 use Rattle.dd_blocks.specs.declared.array_row.ArrayRow.{ArrayRow}
 use Rattle.dd_blocks.specs.declared.grid.Grid.{Grid}
@@ -9,18 +12,27 @@ use Rattle.dd_blocks.specs.declared.plan.Plan.{Plan}
 use Rattle.dd_blocks.specs.declared.statement_row.StatementRow.{StatementRow}
 use Rattle.dd_blocks.specs.declared.what.What.{What}
 use Rattle.dd_blocks.specs.declared.what.What.TheVariants.{Put, Print, Sum, Moved, Same, Drop, MoveTo, Region}
+use Rattle.dd_blocks.specs.ArrayHomes.{AreMovedTo, HasArray, homes_after}
 use Rattle.dd_blocks.specs.Grids.{element_count}
 use Rattle.dd_blocks.specs.Lives.{region_run}
 use Rattle.dd_blocks.specs.Numbered.{IsNumberIn, array_row, no_array}
-use Rattle.dd_blocks.specs.WellFormed.{StatementNamesRows}
-use Rattle.dd_meaning.specs.Text.{moved_above, printed, printed_by, row_text, summed, world_at}
+use Rattle.dd_blocks.specs.WellFormed.{IsWellFormed, StatementNamesRows}
+use Rattle.dd_blocks.proofs.MovedSpacesLemmas.{has_array}
+use Rattle.dd_meaning.specs.Moves.{moved}
+use Rattle.dd_meaning.specs.Steps.{world_after}
+use Rattle.dd_meaning.specs.Text.{moved_above, moved_line, printed, printed_by, row_text, summed, world_at}
+use Rattle.dd_meaning.specs.Versions.{tasks_through}
 use Rattle.dd_meaning.specs.Worlds.{World, values_of}
+use Rattle.dd_plain.specs.declared.run.Run.{Run}
 use Rattle.dd_plain.specs.Lists.{lists_of}
+use Rattle.dd_plain.specs.MovesRest.{NoneAsks}
+use Rattle.dd_plain.specs.RegionRows.{what_at}
+use Rattle.dd_plain.specs.Rows.{HasRun}
 use Rattle.dd_plain.specs.Sizes.{HasSizes}
-use Rattle.dd_plain.proofs.RegionLemmas.{row_at}
+use Rattle.dd_plain.proofs.MovesHomesLemmas.{moved_next}
+use Rattle.dd_plain.proofs.RegionLemmas.{above_other, row_at}
 use Rattle.dd_plain.proofs.TaskLemmas.{holds_values}
 use Rattle.dd_plain.proofs.WorldLemmas.{as_many, has_size}
-use Rattle.std.proofs.lemmas.List.{length-map}
 
 -- what holds anyway holds where a call went well
 pub anyway_on_ok : {T E P : Type 0} (r : Result T E) → P → OnOk r P
@@ -70,10 +82,67 @@ not_region (Region region) other = absurd (other region refl)
 pub other_row : (plan : Plan) (rows : List StatementRow) (i : ℕ) (d : StatementRow) → rows ≡ plan.statements → ((x : ℕ) → (get_or rows i d).what ≡ Region x → ⊥) → region_run (get_or plan.statements i d).what ≡ None
 other_row plan rows i d same other = ap (λ (l : List StatementRow). region_run (get_or l i d).what) (sym same) ∙ not_region (get_or rows i d).what other
 
--- the text of a row
-pub text_at : (plan : Plan) (rows : List StatementRow) (i : ℕ) (d : StatementRow) (world : World) (so_far : ℕ) → rows ≡ plan.statements → i < length plan.statements → world ≡ world_at plan i → so_far ≡ moved_above plan i → printed_by plan world so_far (get_or rows i d).what ≡ row_text plan i
-text_at plan rows i d world so_far same lt is count =
+-- the statement of a row
+pub is_at : (plan : Plan) (rows : List StatementRow) (i : ℕ) (d : StatementRow) → rows ≡ plan.statements → i < length plan.statements → (get_or rows i d).what ≡ what_at plan i
+is_at plan rows i d same lt =
     let none : StatementRow = record { line = 0; what = Put 0 } in
-    ap (λ (l : List StatementRow). printed_by plan world so_far (get_or l i d).what) same
-    ∙ ap (λ (row : StatementRow). printed_by plan world so_far row.what) (get_or_default plan.statements i d none lt)
-    ∙ ap2 (λ (w : World) (n : ℕ). printed_by plan w n (get_or plan.statements i none).what) is count
+    ap (λ (l : List StatementRow). (get_or l i d).what) same ∙ ap (λ (row : StatementRow). row.what) (get_or_default plan.statements i d none lt)
+
+-- what was moved so far matters where it is printed
+printed_anyway : (plan : Plan) (what : What) (world : World) (so_far other : ℕ) → (what ≡ Moved → so_far ≡ other) → printed_by plan world so_far what ≡ printed_by plan world other what
+printed_anyway plan Moved world so_far other same = ap moved_line (same refl)
+printed_anyway plan (Put array) world so_far other same = refl
+printed_anyway plan (Print array) world so_far other same = refl
+printed_anyway plan (Sum array name) world so_far other same = refl
+printed_anyway plan (Same array) world so_far other same = refl
+printed_anyway plan (Drop array last) world so_far other same = refl
+printed_anyway plan (MoveTo array space) world so_far other same = refl
+printed_anyway plan (Region region) world so_far other same = refl
+
+-- a row that prints it stands above the last that asks
+asks_above : (plan : Plan) (asked i : ℕ) → NoneAsks (drop asked plan.statements) → i < length plan.statements → what_at plan i ≡ Moved → i < asked
+asks_above plan asked i last lt is =
+    let none : StatementRow = record { line = 0; what = Moved } in
+    ⊎_elim
+    (λ (above : i < asked). above)
+    (λ (below : asked ≤ i).
+    let place : asked + (i - asked) ≡ i = omega arith in
+    let at : get_or (drop asked plan.statements) (i - asked) none ≡ get_or plan.statements i none =
+    get_or-drop asked plan.statements (i - asked) none ∙ ap (λ (k : ℕ). get_or plan.statements k none) place in
+    absurd (last (i - asked) none (omega (arith, length-drop asked plan.statements)) (ap (λ (row : StatementRow). row.what) at ∙ is)))
+    (cases_lt i asked)
+
+-- the text of a row
+pub text_at : (plan : Plan) (rows : List StatementRow) (i : ℕ) (d : StatementRow) (world : List (Vec ℤ)) (run : Run) → rows ≡ plan.statements → i < length plan.statements → HasRun plan i run
+    → world ≡ run.world.items → printed_by plan (lists_of world) run.moved (get_or rows i d).what ≡ row_text plan i
+text_at plan rows i d world run same lt begun is =
+    ap2 (λ (w : World) (what : What). printed_by plan w run.moved what) (ap lists_of is ∙ begun.world) (is_at plan rows i d same lt)
+    ∙ printed_anyway plan (what_at plan i) (world_at plan i) run.moved (moved_above plan i) (λ asks. begun.moved (asks_above plan run.moves.asked i begun.rest.last lt asks))
+
+-- a row that runs no region, and the next
+pub run_past : (plan : Plan) (i : ℕ) (d : StatementRow) (run next : Run) → IsWellFormed plan → i < length plan.statements → region_run (get_or plan.statements i d).what ≡ None
+    → HasRun plan i run → next.world.items ≡ run.world.items → next.moved ≡ run.moved → next.moves.asked ≡ run.moves.asked → next.moves.marks.items ≡ run.moves.marks.items
+    → next.moves.homes.items ≡ homes_after run.moves.homes.items (get_or plan.statements i d).what → HasRun plan (i + 1) next
+run_past plan i d run next well lt other begun world count asked marks homes =
+    let above = above_other plan i d lt other in
+    let names = All-get_or (λ (row : StatementRow). StatementNamesRows plan row.what) plan.statements i d lt well.names.statements in
+    let more = moved_next (length plan.arrays) plan.statements run.moves.homes.items i d lt (has_array plan (get_or plan.statements i d).what names) begun.rest.homes in
+    record {
+      world = ap lists_of world ∙ begun.world ∙ ap (λ (n : ℕ). world_after plan (tasks_through plan n)) (sym above);
+      sizes = subst (λ (vs : List (Vec ℤ)). HasSizes plan.arrays (lists_of vs)) (sym world) begun.sizes;
+      moved = λ less. count ∙ begun.moved (omega (arith, less, asked)) ∙ ap (λ (n : ℕ). sum_by (moved plan) (range_with_len 1 n)) (sym above);
+      few = omega (arith, count, begun.few, above);
+      rest = record {
+        last = subst (λ (n : ℕ). NoneAsks (drop n plan.statements)) (sym asked) begun.rest.last;
+        unmarked = λ some less. marks ∙ begun.rest.unmarked some (omega (arith, less, asked));
+        homes = subst (AreMovedTo (length plan.arrays) (take (i + 1) plan.statements)) (sym homes) more;
+      };
+    }
+
+-- an array that it moves has a home to put down
+pub has_room : (plan : Plan) (rows : List StatementRow) (i : ℕ) (d : StatementRow) (homes : List ℕ) → IsWellFormed plan → rows ≡ plan.statements → i < length plan.statements
+    → length homes ≡ length plan.arrays → HasArray (length homes) (get_or rows i d).what
+has_room plan rows i d homes well same lt many =
+    let names = All-get_or (λ (row : StatementRow). StatementNamesRows plan row.what) plan.statements i d lt well.names.statements in
+    subst (λ (l : List StatementRow). HasArray (length homes) (get_or l i d).what) (sym same)
+    (subst (λ (n : ℕ). HasArray n (get_or plan.statements i d).what) (sym many) (has_array plan (get_or plan.statements i d).what names))

@@ -6,6 +6,7 @@ pub mod Runs
 pub mod MovesMarks
 pub mod MovesHomes
 pub mod MovesVisits
-pub mod Rows
+pub mod RegionRows
 pub mod MovesRest
+pub mod Rows
 pub mod Bands

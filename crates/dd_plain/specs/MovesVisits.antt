@@ -1,5 +1,5 @@
 -- The visits of a region to the elements of all arrays, in order.
-use Rattle.std.specs.Prelude.{◌≡◌, ℕ, ◌+◌, ◌^◌, ◌≤◌, List, [], ◌∷◌, ◌++◌, Bool, true, map, replicate, slice_index, slice_set, cond, All}
+use Rattle.std.specs.Prelude.{◌≡◌, ℕ, ◌+◌, ◌^◌, ◌<◌, ◌≤◌, List, [], ◌∷◌, ◌++◌, Bool, true, map, replicate, slice_index, slice_set, cond, All}
 use Rattle.std.specs.List.{flat_map}
 use Rattle.dd_kernels.specs.declared.signature.Mode.{Mode}
 use Rattle.dd_views.specs.declared.view.View.{View}
@@ -14,7 +14,7 @@ use Rattle.dd_meaning.specs.Moves.{moved}
 use Rattle.dd_plain.specs.declared.moves.mark.Visit.{Visit}
 use Rattle.dd_plain.specs.declared.moves.mark.Visit.TheVariants.{Read, Write, Leave}
 use Rattle.dd_plain.specs.MovesHomes.{IsViewIn, home_by}
-use Rattle.dd_plain.specs.MovesMarks.{IsMarked, mark_after, moves_at}
+use Rattle.dd_plain.specs.MovesMarks.{AreSameTo, IsMarked, mark_after, moves_at}
 
 -- a visit of one element, by its number among the elements of all arrays, from 0, and by its home
 pub record ElementVisit : Type 0 where
@@ -43,6 +43,11 @@ pub record Visited (visits : List ElementVisit) (old new : List ℕ) (moved : �
 abbrev pub visit_at : Plan → List ℕ → Visit → ℕ → ℕ → ElementVisit
 visit_at plan homes visit array p =
     record { at = (array_row plan array).first_element + p; home = home_by plan homes (record { array = array; pos = p }); visit = visit }
+
+-- to the visit, so many elements from a position of an array on have one home
+abbrev pub HaveHome : Plan → List ℕ → Visit → ℕ → ℕ → ℕ → ℕ → Type 0
+HaveHome plan homes visit array first len home =
+    (k mark : ℕ) → k < len → AreSameTo visit mark home (home_by plan homes (record { array = array; pos = first + k }))
 
 -- each element of a view is visited, in its order
 abbrev pub visits_of : Plan → List ℕ → Visit → View → List ElementVisit

@@ -3,75 +3,115 @@
 //! A mark stands for each element of all arrays. The tasks of a region are walked in their order, and each of them
 //! marks the space in which it runs at the elements of its views: where the mark was missing, the element was moved
 //! there. At the end the elements of the views are left, and those that their homes do not hold are moved home. Elements
-//! that no task of the region uses are not looked at, and where there is one space or no task nothing is.
-ghost use Rattle.std.specs.Prelude.{◌≡◌, ◌≤◌, ◌^◌, IfOk, length, replicate};
+//! that no task of the region uses are not looked at. Where there is one space, or no row below prints what was moved,
+//! nothing is marked. The homes of arrays that statements move are kept from row to row.
+//!
+//! A column of neighbours is walked in runs of elements that have one home, each a plain loop over a slice of the marks;
+//! one in other steps goes element by element.
+ghost use Rattle.std.specs.Prelude.{◌≡◌, ◌+◌, ◌^◌, ◌<◌, ◌≤◌, IfOk, drop, length};
 ghost use Rattle.dd_blocks.specs.Layout.{elements_in};
-ghost use Rattle.dd_blocks.specs.WellFormed.{IsRegion, IsWellFormed};
+ghost use Rattle.dd_blocks.specs.Lives.{tasks_of};
+ghost use Rattle.dd_blocks.specs.WellFormed.{IsWellFormed};
 ghost use Rattle.dd_meaning.specs.Moves.{moved};
-ghost use Rattle.dd_plain.specs.MovesVisits.{IsDone};
+ghost use Rattle.dd_blocks.specs.ArrayHomes.{HasArray, homes_after};
+ghost use Rattle.dd_plain.specs.MovesRest.{NoneAsks};
 
+mod columns;
 mod homes;
 mod mark;
 mod walk;
 
-use crate::moves::homes::{find_homes, rows_above};
+use crate::moves::homes::move_home;
 use crate::moves::walk::visit_region;
-use crate::tasks::tasks_of;
-use dd_blocks::Plan;
+use dd_blocks::{Plan, StatementRow, TaskRow, What};
 use std::alloc::{AllocError, Global};
 
-/// The marks of all elements.
+/// The marks of all elements, and where arrays were moved.
 #[derive(Debug, Drop)]
 pub(crate) struct Moves {
+    /// How many rows there are up to the last that prints what was moved: only what is moved above it is counted.
+    asked: usize,
     /// By the number of the element among those of all arrays, from 0.
     marks: Vec<u8>,
-    /// Room for the spaces to which arrays were moved, by their numbers from 1.
+    /// For each array, the space to which the last of the rows so far moved it, by its number from 1, or 0.
     homes: Vec<u32>,
 }
 
 impl Moves {
     ghost use Rattle.dd_plain.specs.MovesRest.{IsAtRest};
+    ghost use Rattle.dd_plain.specs.RegionRows.{RunsAt, next_region};
 
-    /// Marks for the elements of a Plan, at rest.
+    /// Marks for the elements of a Plan, above its first row.
     pub(crate) fn new(alloc: Global, plan: &Plan) -> Result<Moves, AllocError>
         requires { IsWellFormed plan.now }
-        ensures { IfOk result (IsAtRest plan.now) }
+        ensures { IfOk result (IsAtRest plan.now 0) }
     {
-        let marks = vec![in alloc; 0; elements_in(plan)]?;
+        let asked = rows_asked(plan.statements.as_slice());
+        let marks = vec![in alloc; 0; marks_wanted(plan, asked)]?;
         let homes = vec![in alloc; 0; plan.arrays.as_slice().len()]?;
-        Ok(Moves { marks, homes })
+        Ok(Moves {
+            asked,
+            marks,
+            homes,
+        })
     }
 
-    /// How many elements a region moves. The marks are at rest before and after.
-    pub(crate) fn in_region(&mut self, plan: &Plan, region: u32) -> u64
+    /// How many elements the tasks of a region move, that the row with `i` rows above it runs. Where nothing asks for
+    /// it, it may be 0.
+    pub(crate) fn in_region(&mut self, plan: &Plan, i: usize, tasks: &[TaskRow]) -> u64
         requires well { IsWellFormed plan.now }
-        requires region { IsRegion plan.now region }
-        requires rest { IsAtRest plan.now self.old }
-        ensures value { result ≡ moved plan.now region }
+        requires row { RunsAt plan.now i (next_region plan.now i) }
+        requires tasks { tasks.now ≡ tasks_of plan.now (next_region plan.now i) }
+        requires rest { IsAtRest plan.now i self.old }
+        ensures value { i < self.old.asked → result ≡ moved plan.now (next_region plan.now i) }
         ensures few { result ≤ 2 ^ 28 }
-        ensures rest { IsAtRest plan.now self.new }
+        ensures asked { self.new.asked ≡ self.old.asked }
+        ensures rest { IsAtRest plan.now (i + 1) self.new }
     {
+        if i >= self.asked {
+            return 0;
+        }
         if plan.spaces.as_slice().len() == 1 {
             return 0;
         }
-        moved_by(&mut self.marks, &mut self.homes, plan, region)
+        visit_region(&mut self.marks, plan, &self.homes, tasks)
+    }
+
+    /// Takes note of where a statement moves an array, if it does.
+    pub(crate) fn follow(&mut self, what: &What)
+        requires { HasArray (length self.old.homes.items) what.now }
+        ensures homes { self.new.homes.items ≡ homes_after self.old.homes.items what.now }
+        ensures marks { self.new.marks.items ≡ self.old.marks.items }
+        ensures asked { self.new.asked ≡ self.old.asked }
+    {
+        move_home(&mut self.homes, what);
     }
 }
 
-/// How many elements a region moves.
-fn moved_by(marks: &mut [u8], homes: &mut [u32], plan: &Plan, region: u32) -> u64
-    requires well { IsWellFormed plan.now }
-    requires region { IsRegion plan.now region }
-    requires marks { marks.old ≡ replicate (elements_in plan.now.arrays) 0 }
-    requires homes { length homes.old ≡ length plan.now.arrays }
-    ensures { IsDone plan.now region marks.new result }
+/// How many rows there are up to the last that prints what was moved, or 0.
+fn rows_asked(rows: &[StatementRow]) -> usize
+    ensures { NoneAsks (drop result rows.now) }
 {
-    let tasks = tasks_of(plan, region);
-    if tasks.is_empty() {
+    for i in (0..rows.len()).rev() {
+        if matches!(rows[i].what, What::Moved) {
+            return i + 1;
+        }
+    }
+    0
+}
+
+/// How many marks a run needs: none, where it counts nothing.
+fn marks_wanted(plan: &Plan, asked: usize) -> usize
+    requires { IsWellFormed plan.now }
+    ensures { 1 < length plan.now.spaces → 0 < asked → result ≡ elements_in plan.now.arrays }
+{
+    if asked == 0 {
         return 0;
     }
-    find_homes(homes, rows_above(plan, region));
-    visit_region(marks, plan, homes, tasks)
+    if plan.spaces.as_slice().len() == 1 {
+        return 0;
+    }
+    elements_in(plan)
 }
 
 /// How many elements all arrays have.

@@ -1,11 +1,12 @@
 //! The rows of a Plan in their order.
-ghost use Rattle.std.specs.Prelude.{◌≡◌, ◌+◌, ◌-◌, ◌<◌, ◌≤◌, length, OnOk, OnErr, IfOk, IsErrOf};
+ghost use Rattle.std.specs.Prelude.{◌≡◌, ◌+◌, ◌<◌, ◌≤◌, length, OnOk, OnErr, IfOk, IsErrOf};
 ghost use Rattle.std.specs.Io.KnownBytes.{Appends};
 ghost use Rattle.dd_causes.specs.Counts.{Rose};
 ghost use Rattle.dd_causes.specs.Appended.{AppendsFront};
-ghost use Rattle.dd_blocks.specs.WellFormed.{IsRegion, IsWellFormed, StatementNamesRows};
-ghost use Rattle.dd_meaning.specs.Text.{printed_by, regions_above, row_text, text_of};
+ghost use Rattle.dd_blocks.specs.WellFormed.{IsWellFormed, StatementNamesRows};
+ghost use Rattle.dd_meaning.specs.Text.{printed_by, row_text, text_of};
 ghost use Rattle.dd_plain.specs.Lists.{lists_of};
+ghost use Rattle.dd_plain.specs.RegionRows.{RunsAt};
 ghost use Rattle.dd_plain.specs.Rows.{HasRun};
 ghost use Rattle.dd_plain.specs.Sizes.{HasSizes};
 
@@ -44,7 +45,7 @@ pub(crate) struct Run {
     moves: Moves,
     /// Room for a line of the text.
     line: Vec<u8>,
-    /// How many elements the regions moved so far.
+    /// How many elements the regions moved so far, as far as a row below prints it.
     moved: u64,
 }
 
@@ -93,8 +94,8 @@ fn run_row<O: Sink>(
 ) -> Result<(), PlainFault>
     requires well { IsWellFormed plan.now }
     requires within { i < length plan.now.statements }
-    requires begun { HasRun plan.now (regions_above plan.now i) run.old }
-    ensures ran { OnOk result (HasRun plan.now (regions_above plan.now (i + 1)) run.new) }
+    requires begun { HasRun plan.now i run.old }
+    ensures ran { OnOk result (HasRun plan.now (i + 1) run.new) }
     ensures all { OnOk result (Appends (O.taken out.old) (O.taken out.new) (row_text plan.now i)) }
     ensures front { OnErr result (AppendsFront (O.taken out.old) (O.taken out.new) (row_text plan.now i)) }
     ensures cause { IsErrOf result PlainFault.WriteFault → Rose (O.faults out.old) (O.faults out.new) }
@@ -103,21 +104,28 @@ fn run_row<O: Sink>(
 {
     let what = &plan.statements.as_slice()[i].what;
     if let What::Region(region) = what {
-        return Ok(run_region(alloc, plan, *region, run)?);
+        return Ok(run_region(alloc, plan, i, *region, run)?);
     }
+    run.moves.follow(what);
     write_row(alloc, plan, &run.world, run.moved, what, &mut run.line, out)
 }
 
-/// Runs the tasks of the region that comes next, and counts what it moves.
-fn run_region(alloc: Global, plan: &Plan, region: u32, run: &mut Run) -> Result<(), AllocError>
+/// Runs the tasks of a region, that the row with `i` rows above it runs, and counts what it moves.
+fn run_region(
+    alloc: Global,
+    plan: &Plan,
+    i: usize,
+    region: u32,
+    run: &mut Run,
+) -> Result<(), AllocError>
     requires well { IsWellFormed plan.now }
-    requires region { IsRegion plan.now region }
-    requires begun { HasRun plan.now (region - 1) run.old }
-    ensures { OnOk result (HasRun plan.now region run.new) }
+    requires row { RunsAt plan.now i region }
+    requires begun { HasRun plan.now i run.old }
+    ensures { OnOk result (HasRun plan.now (i + 1) run.new) }
 {
     let tasks = tasks_of(plan, region);
     run_tasks(alloc, plan.arrays.as_slice(), &mut run.world, tasks)?;
-    run.moved += run.moves.in_region(plan, region);
+    run.moved += run.moves.in_region(plan, i, tasks);
     Ok(())
 }
 

@@ -1,53 +1,19 @@
-//! The homes of elements when a region begins.
-ghost use Rattle.std.specs.Prelude.{◌≡◌, ◌-◌, ◌<◌, length, take};
-ghost use Rattle.dd_blocks.specs.ArrayHomes.{AreMovedTo, HasArray, HaveArrays, homes_after};
+//! The homes of elements.
+ghost use Rattle.std.specs.Prelude.{◌≡◌, ◌+◌, ◌<◌, ◌≤◌, ℕ, length, min};
+ghost use Rattle.dd_blocks.specs.ArrayHomes.{HasArray, homes_after};
 ghost use Rattle.dd_blocks.specs.Charges.{block_with};
-ghost use Rattle.dd_blocks.specs.Grids.{element_count};
-ghost use Rattle.dd_blocks.specs.Homes.{row_of_region, runs_region};
+ghost use Rattle.dd_blocks.specs.Grids.{IsGrid, block_of, element_count};
 ghost use Rattle.dd_blocks.specs.Numbered.{IsNumberIn, array_row, block_row};
 ghost use Rattle.dd_blocks.specs.WellFormed.{IsWellFormed};
 ghost use Rattle.dd_plain.specs.MovesHomes.{AreHomes, home_by};
 ghost use Rattle.dd_plain.specs.MovesMarks.{AreSameTo, IsMarked};
+ghost use Rattle.dd_plain.specs.MovesVisits.{HaveHome};
 
 use crate::moves::mark::Visit;
-use dd_blocks::{ArrayRow, Plan, StatementRow, What};
-
-/// The rows above that of a region, or all rows where there is none.
-pub(super) fn rows_above(plan: &Plan, region: u32) -> &[StatementRow]
-    ensures { result.now ≡ take (row_of_region plan.now region - 1) plan.now.statements }
-{
-    let rows = plan.statements.as_slice();
-    for (i, row) in rows.iter().enumerate() {
-        if runs(&row.what, region) {
-            return &rows[..i];
-        }
-    }
-    rows
-}
-
-/// Whether a statement runs the region.
-fn runs(what: &What, region: u32) -> bool
-    ensures { result ≡ runs_region region what.now }
-{
-    match what {
-        What::Region(run) => *run == region,
-        _ => false,
-    }
-}
-
-/// Puts the space to which the last of the rows moved each array into `homes`, or 0.
-pub(super) fn find_homes(homes: &mut [u32], rows: &[StatementRow])
-    requires { HaveArrays (length homes.old) rows.now }
-    ensures { AreMovedTo (length homes.old) rows.now homes.new }
-{
-    homes.fill(0);
-    for row in rows {
-        move_home(homes, &row.what);
-    }
-}
+use dd_blocks::{ArrayRow, Grid, Plan, What};
 
 /// Puts the space into `homes` to which a statement moves an array, where it does.
-fn move_home(homes: &mut [u32], what: &What)
+pub(super) fn move_home(homes: &mut [u32], what: &What)
     requires { HasArray (length homes.old) what.now }
     ensures { homes.new ≡ homes_after homes.old what.now }
 {
@@ -62,6 +28,66 @@ pub(super) fn array_of(plan: &Plan, array: u32) -> ArrayRow
     ensures { result ≡ array_row plan.now array }
 {
     plan.arrays.as_slice()[array as usize - 1]
+}
+
+/// So many elements, one after the other, that have one home.
+#[derive(Clone, Copy)]
+pub(super) struct Run {
+    pub home: u32,
+    pub len: u32,
+}
+
+impl Run {
+    /// The first of these elements, at most so many.
+    pub(super) fn at_most(self, len: u32) -> Run
+        ensures home { result.home ≡ self.home }
+        ensures len { result.len ≡ min self.len len }
+    {
+        Run {
+            home: self.home,
+            len: self.len.min(len),
+        }
+    }
+}
+
+/// The elements from a position of an array on that have one home: to the edge of the block, or as many as there are
+/// where the array was moved, or where the visit does not ask for a home.
+pub(super) fn run_at(plan: &Plan, homes: &[u32], array: u32, pos: u64, visit: Visit) -> Run
+    requires well { IsWellFormed plan.now }
+    requires homes { AreHomes plan.now homes.now }
+    requires array { IsNumberIn plan.now.arrays array }
+    requires within { pos < element_count (array_row plan.now array).grid }
+    ensures same { (len : ℕ) → len ≤ result.len → HaveHome plan.now homes.now visit array pos len result.home }
+    ensures home { IsMarked result.home }
+    ensures some { 1 ≤ result.len }
+{
+    if let Visit::Write(_) = visit {
+        return Run {
+            home: 1,
+            len: u32::MAX,
+        };
+    }
+    let moved_to = homes[array as usize - 1];
+    if moved_to > 0 {
+        return Run {
+            home: moved_to,
+            len: u32::MAX,
+        };
+    }
+    Run {
+        home: first_home(plan, array, pos),
+        len: rows_left(array_of(plan, array).grid, pos),
+    }
+}
+
+/// How many elements from a position on stand in one column of a block.
+fn rows_left(grid: Grid, pos: u64) -> u32
+    requires { IsGrid grid }
+    ensures same { (k : ℕ) → k < result → block_of grid (pos + k) ≡ block_of grid pos }
+    ensures some { 1 ≤ result }
+{
+    let row = (pos % u64::from(grid.rows)) as u32;
+    (grid.brows - row % grid.brows).min(grid.rows - row)
 }
 
 /// The home of the element at a position of an array, or another that is the same to the visit of the mark. To find a

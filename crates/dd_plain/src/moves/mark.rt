@@ -1,5 +1,5 @@
 //! The mark of an element: which spaces hold its current version.
-ghost use Rattle.std.specs.Prelude.{◌≡◌, cond};
+ghost use Rattle.std.specs.Prelude.{◌≡◌, cond, map, sum_by};
 ghost use Rattle.dd_plain.specs.MovesMarks.{IsMarked, IsMarkedVisit, has_space, mark_after, mark_of, moves_at, opened};
 
 use dd_kernels::Mode;
@@ -48,6 +48,22 @@ pub(super) struct Seen {
     pub mark: u8,
     /// How often it was moved.
     pub moved: u64,
+}
+
+/// A visit of elements with one home, by their marks.
+pub(super) fn visit_marks(marks: &mut [u8], home: u32, visit: Visit) -> u64
+    requires home { IsMarked home }
+    requires visit { IsMarkedVisit visit }
+    ensures marks { marks.new ≡ map (mark_after visit home) marks.old }
+    ensures moved { result ≡ sum_by (moves_at visit home) marks.old }
+{
+    let mut moved = 0;
+    for mark in marks.iter_mut() {
+        let seen = after_visit(*mark, home, visit);
+        *mark = seen.mark;
+        moved += seen.moved;
+    }
+    moved
 }
 
 /// A visit of an element by its mark and its home.

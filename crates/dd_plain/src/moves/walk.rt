@@ -1,19 +1,17 @@
 //! The visits of tasks to the elements of their views.
-ghost use Rattle.std.specs.Prelude.{◌≡◌, ◌^◌, ◌<◌, [], ◌∷◌, All, length, map};
+ghost use Rattle.std.specs.Prelude.{◌≡◌, ◌^◌, ◌<◌, All, length};
 ghost use Rattle.std.specs.List.{flat_map};
-ghost use Rattle.dd_blocks.specs.Grids.{element_count};
 ghost use Rattle.dd_blocks.specs.Layout.{elements_in};
-ghost use Rattle.dd_blocks.specs.Numbered.{IsNumberIn, array_row};
+ghost use Rattle.dd_blocks.specs.Numbered.{IsNumberIn};
 ghost use Rattle.dd_blocks.specs.WellFormed.{IsWellFormed};
-ghost use Rattle.dd_views.specs.Positions.{positions_in};
-ghost use Rattle.dd_plain.specs.MovesHomes.{AreHomes, HasPositions, IsViewIn};
+ghost use Rattle.dd_plain.specs.MovesHomes.{AreHomes, IsViewIn};
 ghost use Rattle.dd_plain.specs.MovesMarks.{IsMarkedVisit};
-ghost use Rattle.dd_plain.specs.MovesVisits.{IsWalkable, Visited, access_visits, region_visits, space_of, task_visits, visit_at, visits_by, visits_of};
+ghost use Rattle.dd_plain.specs.MovesVisits.{IsWalkable, Visited, access_visits, region_visits, space_of, task_visits, visits_by, visits_of};
 
-use crate::moves::homes::{array_of, home_for};
-use crate::moves::mark::{Visit, after_visit};
+use crate::moves::columns::visit_column;
+use crate::moves::mark::Visit;
 use dd_blocks::{AccessRow, Plan, TaskRow};
-use dd_views::{Column, View};
+use dd_views::View;
 
 /// The visits of the tasks of a region, and of its end.
 pub(super) fn visit_region(marks: &mut [u8], plan: &Plan, homes: &[u32], tasks: &[TaskRow]) -> u64
@@ -137,55 +135,4 @@ fn visit_view(marks: &mut [u8], plan: &Plan, homes: &[u32], view: &View, visit: 
         moved += visit_column(marks, plan, homes, view.array, view.column(j), visit);
     }
     moved
-}
-
-/// Each element of a column is visited.
-fn visit_column(
-    marks: &mut [u8],
-    plan: &Plan,
-    homes: &[u32],
-    array: u32,
-    column: Column,
-    visit: Visit,
-) -> u64
-    requires well { IsWellFormed plan.now }
-    requires marks { length marks.old ≡ elements_in plan.now.arrays }
-    requires homes { AreHomes plan.now homes.now }
-    requires array { IsNumberIn plan.now.arrays array }
-    requires column { HasPositions (element_count (array_row plan.now array).grid) column }
-    requires visit { IsMarkedVisit visit }
-    ensures { Visited (map (visit_at plan.now homes.now visit array) (positions_in column)) marks.old marks.new result }
-{
-    let mut moved = 0;
-    let mut pos = column.first;
-    for _i in 0..column.count {
-        moved += visit_element(marks, plan, homes, array, pos, visit);
-        pos = pos.wrapping_add_signed(column.step);
-    }
-    moved
-}
-
-/// The element at a position of an array is visited.
-fn visit_element(
-    marks: &mut [u8],
-    plan: &Plan,
-    homes: &[u32],
-    array: u32,
-    pos: u64,
-    visit: Visit,
-) -> u64
-    requires well { IsWellFormed plan.now }
-    requires marks { length marks.old ≡ elements_in plan.now.arrays }
-    requires homes { AreHomes plan.now homes.now }
-    requires array { IsNumberIn plan.now.arrays array }
-    requires within { pos < element_count (array_row plan.now array).grid }
-    requires visit { IsMarkedVisit visit }
-    ensures { Visited (visit_at plan.now homes.now visit array pos ∷ []) marks.old marks.new result }
-{
-    let at = (array_of(plan, array).first_element + pos) as usize;
-    let mark = marks[at];
-    let home = home_for(plan, homes, array, pos, visit, mark);
-    let seen = after_visit(mark, home, visit);
-    marks[at] = seen.mark;
-    seen.moved
 }

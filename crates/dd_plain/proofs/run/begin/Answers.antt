@@ -13,7 +13,7 @@ returns c =
     record {
       world = first.0;
       sizes = first.1;
-      moved = refl;
+      moved = λ asked. refl;
       few = omega arith;
       rest = c.in_ok-new.ensures;
     }

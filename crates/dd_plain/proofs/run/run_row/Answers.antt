@@ -1,39 +1,35 @@
-use Rattle.std.proofs.Common.{OnOk, OnErr, sym, ap, subst, ◌∙◌, arith}
+use Rattle.std.proofs.Common.{List, OnOk, OnErr, get_or, refl, ap, sym, subst, ◌∙◌}
 use Rattle.std.specs.Io.KnownBytes.{Appends}
 use Rattle.dd_causes.specs.Appended.{AppendsFront}
-use Rattle.dd_plain.specs.Lists.{lists_of}
-use Rattle.dd_plain.specs.Rows.{HasRun}
-use Rattle.dd_plain.proofs.RegionLemmas.{above_other, above_region}
-use Rattle.dd_plain.proofs.RowLemmas.{anyway_on_ok, other_row, region_row, text_at}
+use Rattle.dd_blocks.specs.declared.statement_row.StatementRow.{StatementRow}
+use Rattle.dd_blocks.specs.ArrayHomes.{homes_after}
+use Rattle.dd_plain.proofs.RowLemmas.{anyway_on_ok, has_room, is_at, other_row, run_past, text_at}
 use Rattle.dd_plain.proofs.run.run_row.Goals as goal
 
-pub run_region-requires-clause-begun : goal.run_region-requires-clause-begun
-run_region-requires-clause-begun g c =
-    let plan = c.args.plan.now in
-    let row = c.index-as_slice-i.result in
-    let is = region_row plan c.as_slice.result.now c.args.i c.in-Region.region row c.as_slice.ensures c.in-Region.is in
-    let above = (above_region plan c.args.i row c.in-Region.region c.requires.well c.requires.within is).0 in
-    subst (λ n. HasRun plan n c.args.run.now) (omega (arith, above)) c.requires.begun
+pub run_region-requires-clause-row : goal.run_region-requires-clause-row
+run_region-requires-clause-row g c = record {
+  within = c.requires.within;
+  what = sym (is_at c.args.plan.now c.as_slice.result.now c.args.i c.index-as_slice-i.result c.as_slice.ensures c.requires.within) ∙ c.in-Region.is;
+}
 
-pub returns-in-Region-clause-ran : goal.returns-in-Region-clause-ran
-returns-in-Region-clause-ran g c =
-    let plan = c.args.plan.now in
-    let row = c.index-as_slice-i.result in
-    let is = region_row plan c.as_slice.result.now c.args.i c.in-Region.region row c.as_slice.ensures c.in-Region.is in
-    let above = (above_region plan c.args.i row c.in-Region.region c.requires.well c.requires.within is).1 in
-    subst (λ n. HasRun plan n c.run_region.new.run) (sym above) c.in_ok-run_region.ensures
+pub follow-requires : goal.follow-requires
+follow-requires g c =
+    has_room c.args.plan.now c.as_slice.result.now c.args.i c.index-as_slice-i.result c.args.run.now.moves.homes.items c.requires.well c.as_slice.ensures c.requires.within
+    c.requires.begun.rest.homes.count
 
 pub returns : goal.returns
 returns g c =
     let plan = c.args.plan.now in
+    let i = c.args.i in
+    let rows = c.as_slice.result.now in
     let row = c.index-as_slice-i.result in
-    let is = other_row plan c.as_slice.result.now c.args.i row c.as_slice.ensures c.in_default.not-Region in
-    let above = above_other plan c.args.i row c.requires.within is in
-    let begun = subst (λ n. HasRun plan n c.args.run.now) (sym above) c.requires.begun in
-    let world = ap lists_of c.deref.ensures.value ∙ c.requires.begun.world in
-    let text = text_at plan c.as_slice.result.now c.args.i row (lists_of c.deref.result.now) c.args.run.now.moved c.as_slice.ensures c.requires.within world c.requires.begun.moved in
+    let run = c.args.run.now in
+    let begun = c.requires.begun in
+    let other = other_row plan rows i row c.as_slice.ensures c.in_default.not-Region in
+    let homes = c.follow.ensures.homes ∙ ap (λ (l : List StatementRow). homes_after run.moves.homes.items (get_or l i row).what) c.as_slice.ensures in
+    let text = text_at plan rows i row c.deref.result.now run c.as_slice.ensures c.requires.within begun c.deref.ensures.value in
     record {
-      ran = anyway_on_ok c.write_row.result (record { world = begun.world; sizes = begun.sizes; moved = begun.moved; few = begun.few; rest = begun.rest });
+      ran = anyway_on_ok c.write_row.result (run_past plan i row run _ c.requires.well c.requires.within other begun refl refl c.follow.ensures.asked c.follow.ensures.marks homes);
       all = subst (λ bytes. OnOk c.write_row.result (Appends (g.O.Sink.taken c.args.out.now) (g.O.Sink.taken c.write_row.new.out) bytes)) text c.write_row.ensures.all;
       front = subst (λ bytes. OnErr c.write_row.result (AppendsFront (g.O.Sink.taken c.args.out.now) (g.O.Sink.taken c.write_row.new.out) bytes)) text c.write_row.ensures.front;
       cause = c.write_row.ensures.cause;

@@ -11,7 +11,7 @@ use Rattle.dd_blocks.specs.Numbered.{array_row}
 use Rattle.dd_plain.specs.MovesVisits.{ElementVisit, visit_at}
 use Rattle.dd_plain.proofs.MovesLayoutLemmas.{grid_of}
 use Rattle.dd_plain.proofs.MovesVisitsLemmas.{next_position, visited_few, visited_position}
-use Rattle.dd_plain.proofs.moves.walk.visit_column.Goals as goal
+use Rattle.dd_plain.proofs.moves.columns.visit_steps.Goals as goal
 
 pub visit_element-moved-requires-clause-within : goal.visit_element-moved-requires-clause-within
 visit_element-moved-requires-clause-within c = omega (arith, c.loop-i.invariant.here c.loop-i-test.true, c.requires.column.inside c.loop-i._i c.loop-i-test.true)

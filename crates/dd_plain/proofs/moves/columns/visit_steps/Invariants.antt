@@ -2,7 +2,7 @@ use Rattle.std.proofs.Common.{◌≡◌, ◌<◌, map}
 use Rattle.std.specs.List.{range_with_len}
 use Rattle.dd_views.specs.Positions.{position_in}
 use Rattle.dd_plain.specs.MovesVisits.{Visited, visit_at}
-use Rattle.dd_plain.proofs.moves.walk.visit_column.Given as goal
+use Rattle.dd_plain.proofs.moves.columns.visit_steps.Given as goal
 
 abbrev pub invariant-loop-i : goal.invariant-loop-i
 invariant-loop-i l = record {

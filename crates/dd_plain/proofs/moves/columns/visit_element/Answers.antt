@@ -1,7 +1,7 @@
 use Rattle.std.proofs.Common.{◌+◌, ap, ◌∙◌, arith, add-zero}
 use Rattle.dd_blocks.specs.declared.array_row.ArrayRow.{ArrayRow}
 use Rattle.dd_plain.proofs.MovesLayoutLemmas.{element_at}
-use Rattle.dd_plain.proofs.moves.walk.visit_element.Goals as goal
+use Rattle.dd_plain.proofs.moves.columns.visit_element.Goals as goal
 
 pub overflow_add-at : goal.overflow_add-at
 overflow_add-at c =

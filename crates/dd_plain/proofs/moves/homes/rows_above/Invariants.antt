@@ -1,7 +1,0 @@
-use Rattle.std.proofs.Common.{◌≡◌, ℕ, ◌<◌, false, get_or}
-use Rattle.dd_blocks.specs.declared.statement_row.StatementRow.{StatementRow}
-use Rattle.dd_blocks.specs.Homes.{runs_region}
-use Rattle.dd_plain.proofs.moves.homes.rows_above.Given as goal
-
-abbrev pub invariant-loop-i : goal.invariant-loop-i
-invariant-loop-i l = (k : ℕ) (d : StatementRow) → k < l.i → runs_region l.region (get_or l.rows k d).what ≡ false
