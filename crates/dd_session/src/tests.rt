@@ -1,5 +1,8 @@
 //! Whole runs over sources and sinks in memory.
 
+mod damage;
+mod script;
+
 use super::*;
 use dd_io::{MemSink, MemSource};
 use std::alloc::{AllocError, Global};
