@@ -107,6 +107,8 @@ module _ (d : Draft) (region : Opened) (sound : IsSoundDraft (reopened region d)
         regions = omega (arith, counts.regions);
         touches = omega (arith, counts.touches, counts.opened.touches, more);
         opened = subst SumsOpen (sym closed) tt;
+        homes = counts.homes;
+        array = tt;
       }
 
   -- and what is left then

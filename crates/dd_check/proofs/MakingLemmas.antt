@@ -15,12 +15,15 @@ use Rattle.dd_blocks.specs.declared.statement_row.StatementRow.{StatementRow}
 use Rattle.dd_blocks.specs.declared.task_row.TaskRow.{TaskRow}
 use Rattle.dd_blocks.specs.declared.what.What.{What}
 use Rattle.dd_blocks.specs.declared.what.What.TheVariants.{Put, Print, Sum, Moved, Same, Drop, MoveTo, Region}
+use Rattle.dd_blocks.specs.ArrayHomes.{AreMovedTo}
 use Rattle.dd_blocks.specs.Grids.{block_count, element_count}
 use Rattle.dd_blocks.specs.Layout.{elements_in}
 use Rattle.dd_blocks.specs.Lives.{ends_name, gives_name, names_ended, names_given, regions_run}
 use Rattle.dd_blocks.specs.Numbered.{IsNumberIn, no_array, numbered}
 use Rattle.dd_blocks.specs.Touches.{blocks_of, touches_in, touches_of}
 use Rattle.dd_blocks.specs.WellFormed.{NamesRows, StatementNamesRows}
+use Rattle.dd_blocks.proofs.ArrayHomesLemmas.{moved_array}
+use Rattle.dd_blocks.proofs.MovedSpacesLemmas.{have_arrays}
 use Rattle.dd_check.specs.declared.draft.Draft.{Draft}
 use Rattle.dd_check.specs.declared.names.Names.{Names}
 use Rattle.dd_check.specs.Ahead.{CountsAhead, one_if}
@@ -137,6 +140,11 @@ put_ahead old new grid fill names sound has =
       regions = subst (λ (p : Plan). new.regions ≡ length (regions_run p.statements) + 0) (sym has.plan) (omega (arith, has.regions, counts.regions));
       touches = subst (λ (p : Plan). new.touches ≡ touches_in p + 0) (sym has.plan) (omega (arith, has.touches, counts.touches, touches_kept old.plan (next_array old.plan grid fill) sound.above.names_rows));
       opened = subst SumsOpen (sym has.opened) counts.opened;
+      homes = subst (λ (p : Plan). AreMovedTo (length p.arrays) p.statements new.homes.items) (sym has.plan)
+          (subst (λ (arrays : ℕ). AreMovedTo arrays old.plan.statements new.homes.items) (sym one_more)
+          (subst (AreMovedTo (length old.plan.arrays + 1) old.plan.statements) (sym has.homes)
+          (moved_array (length old.plan.arrays) old.plan.statements old.homes.items (have_arrays old.plan old.plan.statements sound.above.names_rows.statements) counts.homes)));
+      array = tt;
     }
 
 -- and what is left then

@@ -57,6 +57,8 @@ module _ (d : Draft) (names : Names) (counts : Vec ℕ Global) (array v : ℕ) (
     regions = omega (arith, h.regions);
     touches = omega (arith, h.touches);
     opened = h.opened;
+    homes = h.homes;
+    array = tt;
   }
 
   pub dropped_ahead : (last : Bool) → v + 1 ≡ get_or d.counts.items (array - 1) 0 → CountsAhead (record d { names = names; counts = counts }) (Drop array last)
@@ -69,6 +71,8 @@ module _ (d : Draft) (names : Names) (counts : Vec ℕ Global) (array v : ℕ) (
     regions = omega (arith, h.regions);
     touches = omega (arith, h.touches);
     opened = h.opened;
+    homes = h.homes;
+    array = tt;
   }
 
 -- the count of an array, by its number

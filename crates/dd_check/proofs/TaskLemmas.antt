@@ -1,5 +1,5 @@
 -- The row of a task of the region that is open.
-use Rattle.std.proofs.Common.{◌≡◌, ◌≢◌, ℕ, suc, ℤ, pos, ◌+◌, ◌^◌, ◌<◌, ◌≤◌, List, [], ◌∷◌, length, Option, None, Some, unwrap_or, ap, ◌∙◌, subst, refl, arith}
+use Rattle.std.proofs.Common.{◌≡◌, ◌≢◌, ℕ, suc, ℤ, pos, ◌+◌, ◌^◌, ◌<◌, ◌≤◌, List, [], ◌∷◌, length, Option, None, Some, unwrap_or, ap, ◌∙◌, sym, subst, refl, arith}
 use Rattle.std.specs.List.{All, cons_option}
 use Rattle.std.specs.Option.{option_map}
 use Rattle.std.proofs.lemmas.List.Elements.{All-weaker}
@@ -11,6 +11,7 @@ use Rattle.dd_blocks.specs.declared.rule.Rule.{Rule}
 use Rattle.dd_blocks.specs.declared.rule.Rule.TheVariants.{Home, Rr}
 use Rattle.dd_blocks.specs.declared.statement_row.StatementRow.{StatementRow}
 use Rattle.dd_blocks.specs.declared.task_row.TaskRow.{TaskRow}
+use Rattle.dd_blocks.specs.ArrayHomes.{AreMovedTo, rows_above}
 use Rattle.dd_blocks.specs.Charges.{AreTouched, charge_of}
 use Rattle.dd_blocks.specs.Layout.{elements_in}
 use Rattle.dd_blocks.specs.Limits.{blocks_limit, elements_limit}
@@ -20,6 +21,7 @@ use Rattle.dd_blocks.specs.Tasks.{shape_in}
 use Rattle.dd_blocks.specs.WellFormed.{IsInLine, IsWellFormed}
 use Rattle.dd_place.specs.Placement.{IsPlaced, IsPlacedBy}
 use Rattle.dd_place.specs.Premises.{CanPlace, IsOfPlan}
+use Rattle.dd_place.proofs.NextLemmas.{above_next}
 use Rattle.dd_place.proofs.PremisesLemmas.{can_place}
 use Rattle.dd_script.specs.declared.piece.Piece.{Piece}
 use Rattle.dd_check.specs.declared.draft.Draft.{Draft}
@@ -85,6 +87,12 @@ regions_few (row ∷ rows) = omega (arith, option_few (region_run row.what) (reg
 -- the number of the region fits
 pub region_fits : (d : Draft) → IsSoundDraft d → d.regions + 1 < 2 ^ 32
 region_fits d sound = omega (arith, sound.counts.regions, regions_few d.plan.statements, (in_line d sound).rows)
+
+-- the homes of the arrays when it begins
+pub homes_above : (d : Draft) → IsSoundDraft d → AreMovedTo (length d.plan.arrays) (rows_above d.plan (d.regions + 1)) d.homes.items
+homes_above d sound =
+    let all : rows_above d.plan (d.regions + 1) ≡ d.plan.statements = above_next d.plan (d.regions + 1) sound.above.regions (ap (λ (n : ℕ). n + 1) sound.counts.regions) in
+    subst (λ (rows : List StatementRow). AreMovedTo (length d.plan.arrays) rows d.homes.items) (sym all) sound.counts.homes
 
 -- the processors of the earlier tasks of the region
 procs_are : (d : Draft) (region : Opened) → IsSoundDraft d → d.opened ≡ Some region → Sums region

@@ -2,12 +2,12 @@
 use Rattle.std.specs.Prelude.{◌≡◌, ℕ, ◌+◌, ◌<◌, Bool, cond, length, slice_index_or, option_to_list}
 use Rattle.dd_blocks.specs.declared.what.What.{What}
 use Rattle.dd_blocks.specs.declared.what.What.TheVariants.{Print, Sum, MoveTo}
+use Rattle.dd_blocks.specs.ArrayHomes.{AreMovedTo, HasArray}
 use Rattle.dd_blocks.specs.Layout.{elements_in}
 use Rattle.dd_blocks.specs.Lives.{ends_name, gives_name, names_ended, names_given, region_run, regions_run}
 use Rattle.dd_blocks.specs.Touches.{touches_in, touches_of}
 use Rattle.dd_check.specs.declared.draft.Draft.{Draft}
 use Rattle.dd_check.specs.Drafts.{SumsOpen}
-use Rattle.dd_check.specs.Entering.{add_statement}
 
 abbrev pub one_if : Bool → ℕ
 one_if b = cond b 1 0
@@ -21,10 +21,8 @@ pub record CountsAhead (d : Draft) (what : What) : Type 0 where
   pub regions : d.regions ≡ length (regions_run d.plan.statements) + length (option_to_list (region_run what))
   pub touches : d.touches ≡ touches_in d.plan + touches_of d.plan what
   pub opened : SumsOpen d.opened
-
--- the draft with the row
-abbrev pub with_row : ℕ → What → Draft → Draft
-with_row n what d = record d { plan = add_statement n what d.plan }
+  pub homes : AreMovedTo (length d.plan.arrays) d.plan.statements d.homes.items
+  pub array : HasArray (length d.plan.arrays) what
 
 -- the statement goes through all blocks of the array
 abbrev pub AsksAll : What → ℕ → Type 0

@@ -2,6 +2,7 @@
 use Rattle.std.specs.Prelude.{◌≡◌, ℕ, ◌+◌, ◌<◌, ◌≤◌, map, length, Option, None, Some, sum_by, slice_index_or}
 use Rattle.std.specs.Option.{option_map}
 use Rattle.dd_blocks.specs.declared.task_row.TaskRow.{TaskRow}
+use Rattle.dd_blocks.specs.ArrayHomes.{AreMovedTo}
 use Rattle.dd_blocks.specs.Charges.{access_elements}
 use Rattle.dd_blocks.specs.Layout.{elements_in}
 use Rattle.dd_blocks.specs.Limits.{text_limit}
@@ -38,6 +39,7 @@ pub record Counts (d : Draft) : Type 0 where
   pub regions : d.regions ≡ length (regions_run d.plan.statements)
   pub touches : d.touches ≡ touches_in d.plan
   pub opened : SumsOpen d.opened
+  pub homes : AreMovedTo (length d.plan.arrays) d.plan.statements d.homes.items
 
 -- whatever the lines above say, this holds of a draft
 pub record IsSoundDraft (d : Draft) : Type 0 where

@@ -28,6 +28,7 @@ pub record HasArray (old : Draft) (grid : Grid) (fill : Fill) (new : Draft) : Ty
   pub plan : new.plan ≡ add_array (next_array old.plan grid fill) old.plan
   pub names : new.names ≡ old.names
   pub counts : new.counts.items ≡ old.counts.items ++ 1 ∷ []
+  pub homes : new.homes.items ≡ old.homes.items ++ 0 ∷ []
   pub opened : new.opened ≡ old.opened
   pub settled : new.settled ≡ old.settled
   pub elements : new.elements ≡ old.elements + element_count grid

@@ -17,6 +17,8 @@ pub(crate) struct Draft {
     pub(crate) names: Names,
     /// How many names each array has.
     pub(crate) counts: Vec<u32>,
+    /// For each array the space to which it was moved last, or 0.
+    pub(crate) homes: Vec<u32>,
     pub(crate) opened: Option<Opened>,
     /// Whether a statement stands above that is not one on the machine.
     pub(crate) settled: bool,
@@ -47,6 +49,7 @@ impl Draft {
             },
             names: Names::new(alloc),
             counts: Vec::new(alloc),
+            homes: Vec::new(alloc),
             opened: None,
             settled: false,
             elements: 0,

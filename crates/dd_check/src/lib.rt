@@ -12,7 +12,8 @@
 //! Plan is well formed, so whoever takes it need not look at it again.
 //!
 //! The text is gone through once, line by line. Names are found by a hash map, and no list of elements is made: the blocks
-//! that a task touches follow from the places of its views' rows and columns, from one piece of an edge to the next.
+//! that a task touches follow from the places of its views' rows and columns, from one piece of an edge to the next. The
+//! spaces to which arrays were moved are kept from line to line, so no row is gone through to place a task.
 //!
 //! Inside, `line` reads a line, `taking` asks the kinds of fault of a statement in their order and lets it enter, and
 //! `script` goes from line to line. The kinds stand in `naming`, `standing`, `edges`, `arguments`, `accesses`, `passing` and

@@ -82,6 +82,7 @@ fn stand_behind(draft: &mut Draft, grid: Grid, fill: Fill) -> Result<u32, AllocE
     draft.plan.arrays.push(row)?;
     draft.elements += u64::from(grid.rows) * u64::from(grid.cols);
     draft.counts.push(1)?;
+    draft.homes.push(0)?;
     Ok(array)
 }
 

@@ -1,7 +1,7 @@
 //! One more row of the statements.
 ghost use Rattle.std.specs.Prelude.{◌≡◌, OnOk};
 ghost use Rattle.dd_blocks.specs.Numbered.{IsNumberIn};
-ghost use Rattle.dd_check.specs.Ahead.{AsksAll, CountsAhead, with_row};
+ghost use Rattle.dd_check.specs.Ahead.{AsksAll, CountsAhead};
 ghost use Rattle.dd_check.specs.Drafts.{Counts, IsSoundDraft, above_of};
 ghost use Rattle.dd_check.specs.Entering.{add_row};
 
@@ -13,9 +13,10 @@ use std::alloc::AllocError;
 /// Adds a row that is counted already.
 pub(crate) fn add_row(draft: &mut Draft, line: u32, what: What) -> Result<(), AllocError>
     requires { CountsAhead draft.old what }
-    ensures row { OnOk result (draft.new ≡ with_row line what draft.old) }
+    ensures above { OnOk result (above_of draft.new ≡ add_row line what (above_of draft.old)) }
     ensures counts { OnOk result (Counts draft.new) }
 {
+    what.move_home(&mut draft.homes);
     draft.plan.statements.push(StatementRow { line, what })?;
     Ok(())
 }

@@ -13,7 +13,7 @@ use crate::opened::Opened;
 use crate::touched::touched_blocks;
 use dd_blocks::{AccessRow, TaskRow};
 use dd_kernels::Kernel;
-use dd_place::place;
+use dd_place::place_by;
 use dd_views::Items;
 use std::alloc::{AllocError, Global};
 
@@ -52,6 +52,6 @@ pub(crate) fn task_row(
         blocks: Items::of(blocks),
         charge,
     };
-    row.proc = place(&draft.plan, &region.procs, &row);
+    row.proc = place_by(&draft.plan, &draft.homes, &region.procs, &row);
     Ok(row)
 }

@@ -172,7 +172,7 @@ type Row = (&'static str, &'static [u8], Last);
 /// The processor, the dependencies, the blocks and the charge of a task.
 type Last = (u32, &'static [u32], &'static [u32], u64);
 
-const TASKS: [Row; 6] = [
+const TASKS: [Row; 7] = [
     (
         "one block",
         b"array A 2 2 2 2 const 1\nregion\ntask add InOut(A) In(A)\nend",
@@ -202,6 +202,11 @@ const TASKS: [Row; 6] = [
         "two spaces",
         b"space m 4096\nspace n 4096\nproc p m\nproc q n\nplace home\narray A 1 4 1 4 zeros\narray B 1 2 1 2 zeros\nregion\ntask fill 1 Out(A)\ntask copy Out(B) In(A[1,1:2])\nend",
         (2, &[1], &[1, 2], 8 * (6 + 4 + 4)),
+    ),
+    (
+        "moved to and fro",
+        b"space m 4096\nspace n 4096\nproc p m\nproc q n\nplace home\narray A 1 2 1 2 zeros\nmove A n\narray B 1 2 1 2 zeros\nmove B m\nmove A m\nregion\ntask fill 1 Out(A)\nend\nmove A n\nregion\ntask fill 1 Out(B)\ntask copy Out(A) In(B)\nend",
+        (2, &[2], &[1, 2], 8 * (4 + 4 + 2)),
     ),
 ];
 

@@ -3,7 +3,6 @@ use Rattle.std.specs.List.{All}
 use Rattle.dd_blocks.specs.declared.task_row.TaskRow.{TaskRow}
 use Rattle.dd_alias.specs.Dependencies.{AreDependenciesOfAll}
 use Rattle.dd_alias.specs.Shapes.{HaveOneShape}
-use Rattle.dd_check.specs.Drafts.{above_of}
 use Rattle.dd_check.specs.Rows.{with_found}
 use Rattle.dd_check.proofs.JoiningLemmas.{closed_on, few_regions, numbers_fit, one_shape, region_ahead}
 use Rattle.dd_check.proofs.joining.join.Goals as goal
@@ -44,5 +43,5 @@ returns-clause-entered c =
     ∙ ap (λ (fs : List (List ℕ)). d.plan.tasks ++ with_found (length d.plan.tasks) c.args.region.tasks.items fs) c.deref-2.ensures.value in (
       with_found (length d.plan.tasks) c.args.region.tasks.items found,
       record { found = found; each = deps.count; exact = deps.each; is = refl },
-      ap above_of c.in_ok-add_row.ensures.row ∙ closed_on d c.args.region c.requires.sound c.requires.closed found c.add_tasks.new.tasks is c.args.line,
+      c.in_ok-add_row.ensures.above ∙ closed_on d c.args.region c.requires.sound c.requires.closed found c.add_tasks.new.tasks is c.args.line,
     )

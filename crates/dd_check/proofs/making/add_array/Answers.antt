@@ -1,7 +1,6 @@
-use Rattle.std.proofs.Common.{ℕ, List, Some, sym, ap, subst, ◌∙◌}
+use Rattle.std.proofs.Common.{ℕ, List, Some, sym, subst, ◌∙◌}
 use Rattle.dd_blocks.specs.declared.what.What.TheVariants.{Put}
 use Rattle.dd_check.specs.Ahead.{CountsAhead}
-use Rattle.dd_check.specs.Drafts.{above_of}
 use Rattle.dd_check.specs.Naming.{Renames}
 use Rattle.dd_check.proofs.MakingLemmas.{made, put_ahead}
 use Rattle.dd_check.proofs.making.add_array.Goals as goal
@@ -16,5 +15,5 @@ pub returns-clause-entered : goal.returns-clause-entered
 returns-clause-entered c =
     let new = c.stand_behind.new.draft in
     let renames = subst (λ (bs : List ℕ). Renames new.names c.put.new.self bs (Some c.in_ok-array.array)) c.as_bytes.ensures c.in_ok-put.ensures in
-    ap above_of c.in_ok-add_row.ensures.row
+    c.in_ok-add_row.ensures.above
     ∙ made c.args.draft.now new c.args.grid c.args.fill c.args.line c.in_ok-array.array c.args.name.now c.put.new.self c.in_ok-array.ensures.stands c.in_ok-array.ensures.number renames

@@ -20,6 +20,7 @@ returns-clause-stands c =
       plan = λ i. record { spaces = p.spaces; procs = p.procs; policy = p.policy; rule = p.rule; arrays = arrays i; blocks = blocks i; tasks = p.tasks; statements = p.statements };
       names = refl;
       counts = c.in_ok-push-2.ensures.items;
+      homes = c.in_ok-push-3.ensures.items;
       opened = refl;
       settled = refl;
       elements = λ i. c.args.draft.now.elements + c.from.ensures i * c.from-2.ensures i;

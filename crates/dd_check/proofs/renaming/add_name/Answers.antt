@@ -31,6 +31,6 @@ returns-clause-entered c =
     let value = c.array_of-array.ensures.value in
     let live = known_some _ c.requires.known ∙ ap Some (sym value) in
     let renames = subst (λ (bs : List ℕ). Renames d.names c.put.new.self bs (Some n)) c.as_bytes.ensures c.in_ok-put.ensures in
-    ap above_of c.in_ok-add_row.ensures.row
+    c.in_ok-add_row.ensures.above
     ∙ renamed (above_of d) (array_by c.put.new.self) c.args.name.now _ c.args.line _ _ (ap Same value)
     (λ other. renames other ∙ ap (λ (o : Option ℕ). cond (bytes_eq other c.args.name.now) o (array_by d.names other)) (sym live))

@@ -37,5 +37,5 @@ returns-clause-entered c =
     let last : nat_eq (c.index.result.now - 1) 0 ≡ nat_eq (suc (names_ended n rows)) (names_given n rows) =
     says_last (c.index.result.now - 1) (names_ended n rows) (names_given n rows) (omega (arith, count, some, counted_at d n c.requires.sound.counts within)) in
     let renames = subst (λ (bs : List ℕ). Renames d.names c.remove.new.self bs None) c.as_bytes.ensures c.remove.ensures in
-    ap above_of c.in_ok-add_row.ensures.row
+    c.in_ok-add_row.ensures.above
     ∙ renamed (above_of d) (array_by c.remove.new.self) c.args.name.now None c.args.line _ _ (ap (Drop n) last ∙ ap (λ (a : ℕ). Drop a (nat_eq (suc (names_ended a rows)) (names_given a rows))) value) renames

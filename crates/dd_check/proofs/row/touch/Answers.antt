@@ -10,4 +10,4 @@ pub add_row-requires : goal.add_row-requires
 add_row-requires c =
     let d = c.args.draft.now in
     let blocks : blocks_of d.plan c.args.array ≡ c.blocks-2.result = sym (c.blocks-2.ensures.value ∙ ap (λ (g : Grid). block_count g) c.grid_at.ensures.value) in
-    subst (λ k. CountsAhead (record d { touches = d.touches + k }) c.args.what) blocks (asks_ahead d c.args.what c.args.array c.requires.sound.counts c.requires.asks)
+    subst (λ k. CountsAhead (record d { touches = d.touches + k }) c.args.what) blocks (asks_ahead d c.args.what c.args.array c.requires.sound.counts c.requires.within c.requires.asks)

@@ -1,6 +1,7 @@
-use Rattle.std.proofs.Common.{None, false, refl, sym, ap, subst, ◌∙◌, arith, length}
+use Rattle.std.proofs.Common.{[], None, false, refl, sym, ap, subst, ◌∙◌, arith, length}
 use Rattle.dd_blocks.specs.declared.policy.Policy.TheVariants.{Lru}
 use Rattle.dd_blocks.specs.declared.rule.Rule.TheVariants.{Rr}
+use Rattle.dd_blocks.proofs.ArrayHomesLemmas.{moved_none}
 use Rattle.dd_check.specs.Sound.{IsSound}
 use Rattle.dd_check.proofs.SoundLemmas.{sound_nothing}
 use Rattle.dd_check.proofs.draft.Draft.new.Goals as goal
@@ -34,5 +35,6 @@ returns-clause-sound c = record {
     regions = rw (c.of-6.ensures, c.new-6.ensures.items) refl;
     touches = rw (c.of-5.ensures, c.new-5.ensures.items, c.of-6.ensures, c.new-6.ensures.items) refl;
     opened = tt;
+    homes = rw (c.of-3.ensures, c.new-3.ensures.items, c.of-6.ensures, c.new-6.ensures.items, c.new-9.ensures.items) (moved_none 0 []);
   };
 }
