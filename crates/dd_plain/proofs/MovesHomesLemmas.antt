@@ -3,7 +3,7 @@ use Rattle.std.proofs.Common.{◌≡◌, ℕ, ◌+◌, ◌<◌, List, [], ◌∷
 use Rattle.std.proofs.lemmas.List.{take_more}
 use Rattle.dd_blocks.specs.declared.plan.Plan.{Plan}
 use Rattle.dd_blocks.specs.declared.statement_row.StatementRow.{StatementRow}
-use Rattle.dd_blocks.specs.declared.what.What.TheVariants.{Moved}
+use Rattle.dd_blocks.specs.declared.what.What.TheVariants.{Put}
 use Rattle.dd_blocks.specs.ArrayHomes.{AreMovedTo, HasArray, homes_after}
 use Rattle.dd_blocks.specs.Layout.{elements_in}
 use Rattle.dd_blocks.proofs.ArrayHomesLemmas.{moved_push}
@@ -22,7 +22,7 @@ moved_next arrays rows homes i d lt has moved =
 pub moved_past : (plan : Plan) (i region : ℕ) (homes : List ℕ) → RunsAt plan i region → AreMovedTo (length plan.arrays) (take i plan.statements) homes
     → AreMovedTo (length plan.arrays) (take (i + 1) plan.statements) homes
 moved_past plan i region homes runs moved =
-    let none : StatementRow = record { line = 0; what = Moved } in
+    let none : StatementRow = record { line = 0; what = Put 0 } in
     let has : HasArray (length plan.arrays) (get_or plan.statements i none).what = subst (HasArray (length plan.arrays)) (sym runs.what) tt in
     subst (AreMovedTo (length plan.arrays) (take (i + 1) plan.statements)) (ap (homes_after homes) runs.what) (moved_next (length plan.arrays) plan.statements homes i none runs.within has moved)
 

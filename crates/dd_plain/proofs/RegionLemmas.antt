@@ -186,7 +186,7 @@ above_region plan i d region well lt some =
 -- further down stand no fewer regions
 above_one : (plan : Plan) (i : ℕ) → i < length plan.statements → regions_above plan i ≤ regions_above plan (i + 1)
 above_one plan i lt =
-    let none : StatementRow = record { line = 0; what = Moved } in
+    let none : StatementRow = record { line = 0; what = Put 0 } in
     let next = ap length (above_next plan.statements i none lt) in
     omega (arith, next, length-append (regions_run (take i plan.statements)) (regions_run (get_or plan.statements i none ∷ [])))
 
@@ -199,7 +199,7 @@ above_le plan a (suc n) le =
 -- the region of a row is the next, and there is no other row of it
 pub runs_next : (plan : Plan) (i region : ℕ) → IsWellFormed plan → RunsAt plan i region → (region ≡ next_region plan i) × (regions_above plan (i + 1) ≡ region)
 runs_next plan i region well runs =
-    let none : StatementRow = record { line = 0; what = Moved } in
+    let none : StatementRow = record { line = 0; what = Put 0 } in
     let above = above_region plan i none region well runs.within (ap region_run runs.what) in
     (omega (arith, above.0), above.1)
 
@@ -219,7 +219,7 @@ false_by false never = refl
 
 pub row_of : (plan : Plan) (i region : ℕ) → IsWellFormed plan → RunsAt plan i region → row_of_region plan region ≡ i + 1
 row_of plan i region well runs =
-    let none : StatementRow = record { line = 0; what = Moved } in
+    let none : StatementRow = record { line = 0; what = Put 0 } in
     let p : StatementRow → Bool = λ row. runs_region region row.what in
     let here : p (get_or plan.statements i none) ≡ true = ap (runs_region region) runs.what ∙ (let same : eqb region region ≡ true = grind (arith, nat_tests) in same) in
     let next = runs_next plan i region well runs in

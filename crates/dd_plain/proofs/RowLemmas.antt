@@ -102,7 +102,7 @@ printed_anyway plan (Region region) world so_far other same = refl
 -- a row that prints it stands above the last that asks
 asks_above : (plan : Plan) (asked i : ℕ) → NoneAsks (drop asked plan.statements) → i < length plan.statements → what_at plan i ≡ Moved → i < asked
 asks_above plan asked i last lt is =
-    let none : StatementRow = record { line = 0; what = Moved } in
+    let none : StatementRow = record { line = 0; what = Put 0 } in
     ⊎_elim
     (λ (above : i < asked). above)
     (λ (below : asked ≤ i).
