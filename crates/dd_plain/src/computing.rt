@@ -1,5 +1,5 @@
 //! Kernels run on what a task holds of its accesses.
-ghost use Rattle.std.specs.Prelude.{◌≡◌, ◌^◌, ◌<◌, ◌+◌, ◌≤◌, List, [], ◌∷◌, length};
+ghost use Rattle.std.specs.Prelude.{◌≡◌, ◌^◌, ◌<◌, ◌+◌, ◌≤◌, [], ◌∷◌, length};
 ghost use Rattle.dd_kernels.specs.Shapes.{ShapesFit, size_of};
 ghost use Rattle.dd_views.specs.IndexList.{index_list};
 ghost use Rattle.dd_views.specs.Views.{IsView};

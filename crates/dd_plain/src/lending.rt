@@ -1,6 +1,5 @@
 //! Which arrays a task may have without a copy.
-ghost use Rattle.std.specs.Prelude.{◌≡◌, ◌+◌, ◌*◌, ◌≤◌};
-ghost use Rattle.std.specs.Prelude.{true};
+ghost use Rattle.std.specs.Prelude.{◌≡◌};
 ghost use Rattle.dd_plain.specs.Lending.{is_lent, is_run, keeps_all, uses_of};
 
 use dd_blocks::AccessRow;

@@ -1,5 +1,5 @@
 //! Elements of an array that stand one after the other.
-ghost use Rattle.std.specs.Prelude.{◌≡◌, ◌⊎◌, ◌+◌, ◌*◌, ◌≤◌, true, All, IfSome};
+ghost use Rattle.std.specs.Prelude.{◌≡◌, ◌+◌, ◌*◌, ◌≤◌, true, All, IfSome};
 ghost use Rattle.dd_views.specs.declared.shape.Shape.{Shape};
 ghost use Rattle.dd_views.specs.IndexList.{index_list};
 ghost use Rattle.dd_views.specs.Views.{IsView, IsViewOf};

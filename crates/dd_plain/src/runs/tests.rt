@@ -210,12 +210,13 @@ fn are_beside(arrays: (u32, u32), at: (Range, Range)) -> Result<bool, ViewFault>
     let shape = Shape { rows: 6, cols: 1 };
     let x = view_of(arrays.0, shape, at.0, ONE, Part::All)?;
     let y = view_of(arrays.1, shape, at.1, ONE, Part::All)?;
-    Ok(beside_of(x, y).is_some())
+    let mode = Mode::Both;
+    let both = (AccessRow { view: x, mode }, AccessRow { view: y, mode });
+    Ok(beside_of(both.0, both.1).is_some())
 }
 
-fn beside_of(x: View, y: View) -> Option<(Run, Run)>
-    requires views { IsView x × IsView y }
+fn beside_of(x: AccessRow, y: AccessRow) -> Option<(Run, Run)>
+    requires { IsView x.view × IsView y.view }
 {
-    let mode = Mode::Both;
-    beside(&[AccessRow { view: x, mode }, AccessRow { view: y, mode }])
+    beside(&[x, y])
 }

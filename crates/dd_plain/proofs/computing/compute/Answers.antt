@@ -1,4 +1,4 @@
-use Rattle.std.proofs.Common.{length, arith, ap, ◌∙◌, rules}
+use Rattle.std.proofs.Common.{length, ap, rules}
 use Rattle.dd_plain.proofs.FewLemmas.{few_accesses}
 use Rattle.dd_plain.proofs.computing.compute.Goals.{in_default-via-then-as_slice-lt1, in_default-via-else-as_slice-lt1+else-this-lt2+else-this-lt3+else-this-lt4}
 use Rattle.dd_plain.proofs.computing.compute.Goals as goal

@@ -1,4 +1,4 @@
-use Rattle.std.proofs.Common.{ap, length, ◌∙◌}
+use Rattle.std.proofs.Common.{ap, ◌∙◌}
 use Rattle.dd_plain.specs.Lending.{is_lent}
 use Rattle.dd_plain.proofs.HeldLemmas.{three_held, three_wrote}
 use Rattle.dd_plain.proofs.computing.lend_three.Goals as goal

@@ -1,4 +1,3 @@
-use Rattle.std.proofs.Common.{ap, length, ◌∙◌}
 use Rattle.dd_plain.specs.Lending.{is_lent}
 use Rattle.dd_plain.proofs.HeldLemmas.{two_wrote}
 use Rattle.dd_plain.proofs.computing.lend_two.Goals as goal

@@ -1,4 +1,4 @@
-use Rattle.std.proofs.Common.{ℕ, ℤ, List, [], ◌∷◌, ◌++◌, length, sym, subst, arith, ⊎_elim}
+use Rattle.std.proofs.Common.{ℕ, ℤ, List, [], ◌∷◌, ◌++◌, sym, subst, arith, ⊎_elim}
 use Rattle.std.specs.List.{range_with_len}
 use Rattle.dd_plain.specs.Runs.{WroteBoth, positions}
 use Rattle.dd_plain.proofs.RunLemmas.{wrote_in_order, wrote_out_of_order}

@@ -1,11 +1,10 @@
-use Rattle.std.proofs.Common.{◌≡◌, ◌+◌, ◌-◌, ℤ, take, drop, length, map, [], ◌∷◌, ap, sym, ◌∙◌, arith, rules}
+use Rattle.std.proofs.Common.{◌≡◌, ℤ, length, map, [], ◌∷◌, ap, sym, ◌∙◌, rules}
 use Rattle.std.specs.Int.{w64}
 use Rattle.std.specs.Int.RustNames.{FitsSigned}
 use Rattle.std.proofs.lemmas.Int.{to_z-of_z}
 use Rattle.dd_kernels.specs.Lists.{element}
 use Rattle.dd_kernels.specs.Table.{results}
 use Rattle.dd_kernels.proofs.ListsLemmas.{ap2}
-use Rattle.dd_meaning.specs.Steps.{put_at}
 use Rattle.dd_plain.specs.Runs.{positions}
 use Rattle.dd_plain.proofs.LendingLemmas.{put_same}
 use Rattle.dd_plain.proofs.RunLemmas.{run_made, run_read, slice_length, three_lists}

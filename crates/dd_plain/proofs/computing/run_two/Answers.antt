@@ -1,8 +1,7 @@
-use Rattle.std.proofs.Common.{◌≡◌, ◌+◌, ◌-◌, ℤ, take, drop, length, map, [], ◌∷◌, ap, sym, ◌∙◌, arith, rules}
+use Rattle.std.proofs.Common.{◌≡◌, ℤ, length, [], ◌∷◌, ◌∙◌, rules}
 use Rattle.std.specs.Int.{w64}
 use Rattle.std.specs.Int.RustNames.{FitsSigned}
 use Rattle.std.proofs.lemmas.Int.{to_z-of_z}
-use Rattle.dd_kernels.specs.Lists.{element}
 use Rattle.dd_kernels.specs.Table.{results}
 use Rattle.dd_kernels.proofs.ListsLemmas.{ap2}
 use Rattle.dd_plain.proofs.RunLemmas.{run_made, run_read, slice_length}

@@ -1,7 +1,6 @@
-use Rattle.std.proofs.Common.{◌≡◌, ◌+◌, ◌-◌, length, sym, ◌∙◌, arith}
+use Rattle.std.proofs.Common.{sym, ◌∙◌, arith}
 use Rattle.std.specs.List.{range_with_len}
 use Rattle.dd_kernels.proofs.ListsLemmas.{ap2}
-use Rattle.dd_views.specs.IndexList.{index_list}
 use Rattle.dd_plain.proofs.TaskLemmas.{last_position, run_positions}
 use Rattle.dd_plain.proofs.runs.run_of.Goals as goal
 

@@ -1,9 +1,6 @@
-use Rattle.std.proofs.Common.{length, map, sym, ap, subst, ◌∙◌, rules}
-use Rattle.std.specs.Int.{w64}
-use Rattle.std.specs.Int.RustNames.{FitsSigned}
-use Rattle.std.proofs.lemmas.Int.{to_z-of_z}
+use Rattle.std.proofs.Common.{length, sym, ap, ◌∙◌}
 use Rattle.std.proofs.lemmas.List.{length-map}
-use Rattle.dd_plain.specs.Lending.{AreHeld, all_places, held, is_lent}
+use Rattle.dd_plain.specs.Lending.{AreHeld, is_lent}
 use Rattle.dd_plain.specs.Lists.{lists_of}
 use Rattle.dd_plain.proofs.StepLemmas.{are_held, items_written, length_without_all, step_sizes, still_held, task_stepped, there}
 use Rattle.dd_plain.proofs.WorldLemmas.{as_many}

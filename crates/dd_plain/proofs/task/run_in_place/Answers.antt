@@ -1,11 +1,5 @@
-use Rattle.std.proofs.Common.{◌∷◌, [], ℕ, length, subst, ap, sym, ◌∙◌, arith}
-use Rattle.std.specs.List.{All}
-use Rattle.std.proofs.lemmas.List.{length-map}
-use Rattle.dd_blocks.specs.Grids.{element_count}
 use Rattle.dd_blocks.specs.Numbered.{numbered, no_array}
 use Rattle.dd_blocks.specs.Tasks.{shape_in}
-use Rattle.dd_plain.specs.Lists.{lists_of}
-use Rattle.dd_plain.specs.Sizes.{IsInArray}
 use Rattle.dd_plain.proofs.AccessLemmas.{few_elements}
 use Rattle.dd_plain.proofs.StepLemmas.{beside_in_array, beside_within, beside_written}
 use Rattle.dd_plain.proofs.TaskLemmas.{run_filled}

@@ -1,4 +1,4 @@
-use Rattle.std.proofs.Common.{get_or, rules}
+use Rattle.std.proofs.Common.{get_or}
 use Rattle.dd_blocks.specs.Numbered.{numbered, no_array}
 use Rattle.dd_blocks.specs.Tasks.{shape_in}
 use Rattle.dd_plain.specs.Lists.{lists_of}
