@@ -1,9 +1,9 @@
 -- Elements with one home, and a pass over their marks.
-use Rattle.std.proofs.Common.{◌≡◌, ℕ, zero, suc, ◌+◌, ◌-◌, ◌*◌, ◌/◌, ◌%◌, ◌<◌, ◌≤◌, Bool, false, eqb, cond, List, [], ◌∷◌, ◌++◌, length, map, get_or, set, take, drop, refl, sym, ap, ◌∙◌, subst, arith, append_assoc}
+use Rattle.std.proofs.Common.{◌≡◌, ℕ, zero, suc, ◌+◌, ◌-◌, ◌*◌, ◌/◌, ◌%◌, ◌<◌, ◌≤◌, Bool, false, eqb, cond, List, [], ◌∷◌, ◌++◌, length, map, get_or, set, take, drop, replicate, refl, sym, ap, ◌∙◌, subst, arith, append_assoc}
 use Rattle.std.specs.List.{between, range_with_len, sum_by}
 use Rattle.std.proofs.lemmas.Bool.Decides.{nat_tests}
 use Rattle.std.proofs.lemmas.List.{drop-drop, drop-set-lt, drop_more, get_or-drop, length-drop, length-map, length-set, length-take-le, map-append, take-append-drop, take_all, take_more, take_more_set}
-use Rattle.std.proofs.lemmas.List.Sums.{sum_by-cons}
+use Rattle.std.proofs.lemmas.List.Sums.{sum_by-cons, sum_by_more}
 use Rattle.std.proofs.lemmas.Nat.{div-add-mod', div-mul-add, mod-mul-add}
 use Rattle.std.proofs.lemmas.Slice.{put_mid-paste}
 use Rattle.dd_kernels.proofs.ListsLemmas.{ap2}
@@ -17,11 +17,11 @@ use Rattle.dd_plain.specs.declared.moves.homes.Run.{Run}
 use Rattle.dd_plain.specs.declared.moves.mark.Visit.{Visit}
 use Rattle.dd_plain.specs.declared.moves.mark.Visit.TheVariants.{Write}
 use Rattle.dd_plain.specs.MovesHomes.{home_by}
-use Rattle.dd_plain.specs.MovesMarks.{AreSameTo, mark_after, moves_at}
+use Rattle.dd_plain.specs.MovesMarks.{AreSameTo, mark_after, mark_of, moves_at}
 use Rattle.dd_plain.specs.MovesVisits.{ElementVisit, HaveHome, Visited, marks_after, moves_along, visit_at}
 use Rattle.dd_plain.proofs.MovesMarksLemmas.{same_home}
 use Rattle.dd_plain.proofs.MovesSumsLemmas.{range-add}
-use Rattle.dd_plain.proofs.MovesVisitsLemmas.{visited_append}
+use Rattle.dd_plain.proofs.MovesVisitsLemmas.{moves_few, visited_append}
 use borrow.Rule.Slice.PartMut.{put_mid}
 
 -- ---- homes
@@ -186,19 +186,51 @@ visited_next plan homes visit array first done from found run old mid new moved 
 
 -- ---- a loop over marks
 
--- one mark more
-pub mark_more : (f : ℕ → ℕ) (marks old : List ℕ) (i z : ℕ) → i < length marks → i < length old → z ≡ f (get_or old i 0) → take i marks ≡ map f (take i old)
-    → take (i + 1) (set marks i z) ≡ map f (take (i + 1) old)
-mark_more f marks old i z lt inside is so_far =
-    take_more_set marks i z lt ∙ ap2 (λ (l : List ℕ) (y : ℕ). l ++ y ∷ []) so_far is
-    ∙ sym (ap (map f) (take_more old i 0 inside) ∙ map-append f (take i old) (get_or old i 0 ∷ []))
+-- the marks below a place were visited, and those from it on are as before
+pub record IsPassed (visit : Visit) (home i : ℕ) (old marks : List ℕ) (moved : ℕ) : Type 0 where
+  pub done : take i marks ≡ map (mark_after visit home) (take i old)
+  pub left : drop i marks ≡ drop i old
+  pub count : moved ≡ sum_by (moves_at visit home) (take i old)
+  pub few : moved ≤ i
 
-pub left_on : (marks old : List ℕ) (i z : ℕ) → drop i marks ≡ drop i old → drop (i + 1) (set marks i z) ≡ drop (i + 1) old
-left_on marks old i z left = drop-set-lt (i + 1) marks i z (omega arith) ∙ (sym (drop-drop 1 i marks) ∙ ap (λ (l : List ℕ). drop 1 l) left ∙ drop-drop 1 i old)
+pub passed_none : (visit : Visit) (home : ℕ) (marks : List ℕ) → IsPassed visit home 0 marks marks 0
+passed_none visit home marks = record { done = refl; left = refl; count = refl; few = omega arith }
 
-pub left_at : (marks old : List ℕ) (i : ℕ) → drop i marks ≡ drop i old → get_or marks i 0 ≡ get_or old i 0
+left_at : (marks old : List ℕ) (i : ℕ) → drop i marks ≡ drop i old → get_or marks i 0 ≡ get_or old i 0
 left_at marks old i left =
     let at : i + 0 ≡ i = omega arith in
     let here = get_or-drop i marks 0 0 in
     let there = get_or-drop i old 0 0 in
     cc
+
+pub passed_more : (visit : Visit) (home i : ℕ) (old marks : List ℕ) (moved mark more : ℕ) → i < length marks → length marks ≡ length old
+    → mark ≡ mark_after visit home (get_or marks i 0) → more ≡ moves_at visit home (get_or marks i 0) → IsPassed visit home i old marks moved
+    → IsPassed visit home (i + 1) old (set marks i mark) (moved + more)
+passed_more visit home i old marks moved mark more lt many is moves passed =
+    let within : i < length old = omega (arith, lt, many) in
+    let same = left_at marks old i passed.left in
+    let f : ℕ → ℕ = mark_after visit home in
+    let here = is ∙ ap f same in
+    let one = moves ∙ ap (moves_at visit home) same in
+    record {
+      done = take_more_set marks i mark lt ∙ ap2 (λ (l : List ℕ) (m : ℕ). l ++ m ∷ []) passed.done here
+          ∙ sym (ap (map f) (take_more old i 0 within) ∙ map-append f (take i old) (get_or old i 0 ∷ []));
+      left = drop-set-lt (i + 1) marks i mark (omega arith) ∙ (sym (drop-drop 1 i marks) ∙ ap (λ (l : List ℕ). drop 1 l) passed.left ∙ drop-drop 1 i old);
+      count = omega (arith, passed.count, one, sum_by_more (moves_at visit home) old i 0 within);
+      few = omega (arith, passed.few, one, moves_few visit home (get_or old i 0));
+    }
+
+pub passed_all : (visit : Visit) (home i : ℕ) (old marks : List ℕ) (moved : ℕ) → length marks ≤ i → length marks ≡ length old → IsPassed visit home i old marks moved
+    → (marks ≡ map (mark_after visit home) old) × (moved ≡ sum_by (moves_at visit home) old)
+passed_all visit home i old marks moved end many passed =
+    let all = take_all i old (omega (arith, end, many)) in
+    (sym (take_all i marks end) ∙ passed.done ∙ ap (map (mark_after visit home)) all, passed.count ∙ ap (sum_by (moves_at visit home)) all)
+
+-- a space that writes holds each element alone, and nothing moves
+pub all_written : (space home : ℕ) (marks : List ℕ) → replicate (length marks) (mark_of space) ≡ map (mark_after (Write space) home) marks
+all_written space home [] = refl
+all_written space home (m ∷ marks) = ap (λ (l : List ℕ). mark_of space ∷ l) (all_written space home marks)
+
+pub none_moved : (space home : ℕ) (marks : List ℕ) → 0 ≡ sum_by (moves_at (Write space) home) marks
+none_moved space home [] = refl
+none_moved space home (m ∷ marks) = omega (arith, sum_by-cons (moves_at (Write space) home) m marks, none_moved space home marks)

@@ -1,10 +1,10 @@
 -- The bits of marks, and what a second visit of the same kind makes of a mark.
-use Rattle.std.proofs.Common.{◌≡◌, ◌≢◌, ℕ, zero, suc, ◌-◌, ◌^◌, ◌<◌, ◌≤◌, Bool, true, false, eqb, cond, not, ◌||◌, refl, sym, ap, ◌∙◌, arith, ⊎_elim, max}
+use Rattle.std.proofs.Common.{◌≡◌, ◌≢◌, ℕ, zero, suc, ◌-◌, ◌*◌, ◌^◌, ◌<◌, ◌≤◌, Bool, true, false, eqb, cond, not, ◌||◌, refl, sym, ap, ◌∙◌, arith, ⊎_elim, max}
 use Rattle.std.specs.Int.{bit_at}
-use Rattle.std.specs.Int.RustNames.{bit_or}
+use Rattle.std.specs.Int.RustNames.{bit_and, bit_or}
 use Rattle.std.proofs.lemmas.Bool.{cases_eq}
 use Rattle.std.proofs.lemmas.Bool.Decides.{nat_tests}
-use Rattle.std.proofs.lemmas.Nat.Bits.{bit_at-lt, bit_at-pow_other, bit_at-pow_same, bit_at-zero, bit_at_or, same_from_bits}
+use Rattle.std.proofs.lemmas.Nat.Bits.{and_pow, bit_at-lt, bit_at-pow_other, bit_at-pow_same, bit_at-zero, bit_at_or, same_from_bits}
 use Rattle.dd_plain.specs.declared.moves.mark.Visit.{Visit}
 use Rattle.dd_plain.specs.declared.moves.mark.Visit.TheVariants.{Read, Write, Leave}
 use Rattle.dd_plain.specs.MovesMarks.{AreSameTo, asks_home, has_space, mark_after, mark_of, moves_at, opened}
@@ -123,3 +123,20 @@ unasked Leave mark home other unasks =
 
 pub same_home : (visit : Visit) (mark home : ℕ) → AreSameTo visit mark home home
 same_home visit mark home = record { after = refl; moves = refl }
+
+-- the bit of a space in a mark, by what is left of the mark without the others
+masked_none : (bit power masked : ℕ) → bit < 2 → power ≢ 0 → masked ≡ bit * power → masked ≡ 0 → eqb bit 1 ≡ false
+masked_none zero power masked lt some is none = refl
+masked_none (suc zero) power masked lt some is none = absurd (some (omega (arith, is, none)))
+masked_none (suc (suc bit)) power masked lt some is none = absurd (omega arith)
+
+masked_some : (bit power masked : ℕ) → bit < 2 → masked ≡ bit * power → masked ≢ 0 → eqb bit 1 ≡ true
+masked_some zero power masked lt is some = absurd (some (omega (arith, is)))
+masked_some (suc zero) power masked lt is some = refl
+masked_some (suc (suc bit)) power masked lt is some = absurd (omega arith)
+
+pub misses : (mark space : ℕ) → bit_and mark (mark_of space) ≡ 0 → has_space mark space ≡ false
+misses mark space none = masked_none (bit_at mark (space - 1)) (mark_of space) (bit_and mark (mark_of space)) (bit_at-lt mark (space - 1)) (mark_of_some space) (and_pow mark (space - 1)) none
+
+pub misses_not : (mark space : ℕ) → bit_and mark (mark_of space) ≢ 0 → has_space mark space ≡ true
+misses_not mark space some = masked_some (bit_at mark (space - 1)) (mark_of space) (bit_and mark (mark_of space)) (bit_at-lt mark (space - 1)) (and_pow mark (space - 1)) some

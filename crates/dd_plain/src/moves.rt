@@ -6,8 +6,8 @@
 //! that no task of the region uses are not looked at. Where there is one space, or no row below prints what was moved,
 //! nothing is marked. The homes of arrays that statements move are kept from row to row.
 //!
-//! A column of neighbours is walked in runs of elements that have one home, each a plain loop over a slice of the marks;
-//! one in other steps goes element by element.
+//! A column of neighbours is walked in runs of elements that have one home, each a plain loop over a slice of the marks.
+//! One in other steps goes element by element, and so does one whose runs are short.
 ghost use Rattle.std.specs.Prelude.{◌≡◌, ◌+◌, ◌^◌, ◌<◌, ◌≤◌, IfOk, drop, length};
 ghost use Rattle.dd_blocks.specs.Layout.{elements_in};
 ghost use Rattle.dd_blocks.specs.Lives.{tasks_of};

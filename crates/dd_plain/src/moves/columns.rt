@@ -15,6 +15,9 @@ use crate::moves::mark::{Visit, after_visit, visit_marks};
 use dd_blocks::Plan;
 use dd_views::Column;
 
+/// How many elements make a run long.
+const LONG: u32 = 8;
+
 /// Each element of a column is visited.
 pub(super) fn visit_column(
     marks: &mut [u8],
@@ -32,11 +35,25 @@ pub(super) fn visit_column(
     requires visit { IsMarkedVisit visit }
     ensures { Visited (map (visit_at plan.now homes.now visit array) (positions_in column)) marks.old marks.new result }
 {
-    if column.step == 1 {
+    if column.step == 1 && has_long_runs(plan, homes, array, column.count) {
         visit_runs(marks, plan, homes, array, column.first, column.count, visit)
     } else {
         visit_steps(marks, plan, homes, array, column, visit)
     }
+}
+
+/// Whether so many elements, one after the other, are worth to be walked in runs. To find a run takes some divisions,
+/// and a mark says mostly that no home has to be found.
+fn has_long_runs(plan: &Plan, homes: &[u32], array: u32, count: u32) -> bool
+    requires homes { AreHomes plan.now homes.now }
+    requires array { IsNumberIn plan.now.arrays array }
+{
+    let longest = if homes[array as usize - 1] > 0 {
+        count
+    } else {
+        array_of(plan, array).grid.brows.min(count)
+    };
+    longest >= LONG
 }
 
 /// Elements that stand one after the other are visited, those with one home at a time.
@@ -79,7 +96,8 @@ fn visit_run(marks: &mut [u8], plan: &Plan, array: u32, pos: u64, run: Run, visi
     ensures { (homes : List ℕ) → HaveHome plan.now homes visit array pos run.len run.home → Visited (map (visit_at plan.now homes visit array) (range_with_len pos run.len)) marks.old marks.new result }
 {
     let at = (array_of(plan, array).first_element + pos) as usize;
-    visit_marks(&mut marks[at..at + run.len as usize], run.home, visit)
+    let moved = visit_marks(&mut marks[at..at + run.len as usize], run.home, visit);
+    u64::from(moved)
 }
 
 /// Elements that stand in steps are visited, one at a time.
@@ -130,5 +148,5 @@ fn visit_element(
     let home = home_for(plan, homes, array, pos, visit, mark);
     let seen = after_visit(mark, home, visit);
     marks[at] = seen.mark;
-    seen.moved
+    u64::from(seen.moved)
 }

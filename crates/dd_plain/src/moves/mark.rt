@@ -1,5 +1,5 @@
 //! The mark of an element: which spaces hold its current version.
-ghost use Rattle.std.specs.Prelude.{◌≡◌, cond, map, sum_by};
+ghost use Rattle.std.specs.Prelude.{◌≡◌, ◌^◌, ◌<◌, cond, length, map, sum_by};
 ghost use Rattle.dd_plain.specs.MovesMarks.{IsMarked, IsMarkedVisit, has_space, mark_after, mark_of, moves_at, opened};
 
 use dd_kernels::Mode;
@@ -47,19 +47,55 @@ impl Visit {
 pub(super) struct Seen {
     pub mark: u8,
     /// How often it was moved.
-    pub moved: u64,
+    pub moved: u32,
 }
 
-/// A visit of elements with one home, by their marks.
-pub(super) fn visit_marks(marks: &mut [u8], home: u32, visit: Visit) -> u64
+/// A visit of elements with one home, by their marks: how many of them it moves.
+pub(super) fn visit_marks(marks: &mut [u8], home: u32, visit: Visit) -> u32
+    requires few { length marks.old < 2 ^ 32 }
     requires home { IsMarked home }
     requires visit { IsMarkedVisit visit }
     ensures marks { marks.new ≡ map (mark_after visit home) marks.old }
     ensures moved { result ≡ sum_by (moves_at visit home) marks.old }
 {
+    match visit {
+        Visit::Read(space) => read_marks(marks, home, space),
+        Visit::Write(space) => {
+            marks.fill(mark_of(space));
+            0
+        }
+        Visit::Leave => leave_marks(marks, home),
+    }
+}
+
+/// A task in a space reads elements with one home. The loop has no choice between visits in it, so that it goes over
+/// many marks at once.
+fn read_marks(marks: &mut [u8], home: u32, space: u32) -> u32
+    requires few { length marks.old < 2 ^ 32 }
+    requires home { IsMarked home }
+    requires space { IsMarked space }
+    ensures marks { marks.new ≡ map (mark_after (Visit.Read space) home) marks.old }
+    ensures moved { result ≡ sum_by (moves_at (Visit.Read space) home) marks.old }
+{
     let mut moved = 0;
     for mark in marks.iter_mut() {
-        let seen = after_visit(*mark, home, visit);
+        let seen = read(*mark, home, space);
+        *mark = seen.mark;
+        moved += seen.moved;
+    }
+    moved
+}
+
+/// The region ends for elements with one home.
+fn leave_marks(marks: &mut [u8], home: u32) -> u32
+    requires few { length marks.old < 2 ^ 32 }
+    requires home { IsMarked home }
+    ensures marks { marks.new ≡ map (mark_after Visit.Leave home) marks.old }
+    ensures moved { result ≡ sum_by (moves_at Visit.Leave home) marks.old }
+{
+    let mut moved = 0;
+    for mark in marks.iter_mut() {
+        let seen = leave(*mark, home);
         *mark = seen.mark;
         moved += seen.moved;
     }
@@ -74,21 +110,38 @@ pub(super) fn after_visit(mark: u8, home: u32, visit: Visit) -> Seen
     ensures moved { result.moved ≡ moves_at visit home mark }
 {
     match visit {
-        Visit::Read(space) => {
-            let opened = opened(mark, home);
-            Seen {
-                mark: opened | mark_of(space),
-                moved: missing(opened, space),
-            }
-        }
+        Visit::Read(space) => read(mark, home, space),
         Visit::Write(space) => Seen {
             mark: mark_of(space),
             moved: 0,
         },
-        Visit::Leave => Seen {
-            mark: 0,
-            moved: missing(opened(mark, home), home),
-        },
+        Visit::Leave => leave(mark, home),
+    }
+}
+
+/// A task in a space reads an element.
+fn read(mark: u8, home: u32, space: u32) -> Seen
+    requires home { IsMarked home }
+    requires space { IsMarked space }
+    ensures mark { result.mark ≡ mark_after (Visit.Read space) home mark }
+    ensures moved { result.moved ≡ moves_at (Visit.Read space) home mark }
+{
+    let opened = opened(mark, home);
+    Seen {
+        mark: opened | mark_of(space),
+        moved: missing(opened, space),
+    }
+}
+
+/// The region ends for an element.
+fn leave(mark: u8, home: u32) -> Seen
+    requires { IsMarked home }
+    ensures mark { result.mark ≡ mark_after Visit.Leave home mark }
+    ensures moved { result.moved ≡ moves_at Visit.Leave home mark }
+{
+    Seen {
+        mark: 0,
+        moved: missing(opened(mark, home), home),
     }
 }
 
@@ -109,9 +162,9 @@ fn mark_of(space: u32) -> u8
 }
 
 /// 1 where the space does not hold the element, and 0 where it does.
-fn missing(mark: u8, space: u32) -> u64
+fn missing(mark: u8, space: u32) -> u32
     requires { IsMarked space }
     ensures { result ≡ cond (has_space mark space) 0 1 }
 {
-    if mark >> (space - 1) & 1 == 1 { 0 } else { 1 }
+    if mark & mark_of(space) == 0 { 1 } else { 0 }
 }
