@@ -21,7 +21,6 @@ mod homes;
 mod mark;
 mod walk;
 
-use crate::moves::homes::move_home;
 use crate::moves::walk::visit_region;
 use dd_blocks::{Plan, StatementRow, TaskRow, What};
 use std::alloc::{AllocError, Global};
@@ -84,7 +83,7 @@ impl Moves {
         ensures marks { self.new.marks.items ≡ self.old.marks.items }
         ensures asked { self.new.asked ≡ self.old.asked }
     {
-        move_home(&mut self.homes, what);
+        what.move_home(&mut self.homes);
     }
 }
 

@@ -1,6 +1,5 @@
 //! The homes of elements.
-ghost use Rattle.std.specs.Prelude.{◌≡◌, ◌+◌, ◌<◌, ◌≤◌, ℕ, length, min};
-ghost use Rattle.dd_blocks.specs.ArrayHomes.{HasArray, homes_after};
+ghost use Rattle.std.specs.Prelude.{◌≡◌, ◌+◌, ◌<◌, ◌≤◌, ℕ, min};
 ghost use Rattle.dd_blocks.specs.Charges.{block_with};
 ghost use Rattle.dd_blocks.specs.Grids.{IsGrid, block_of, element_count};
 ghost use Rattle.dd_blocks.specs.Numbered.{IsNumberIn, array_row, block_row};
@@ -10,17 +9,7 @@ ghost use Rattle.dd_plain.specs.MovesMarks.{AreSameTo, IsMarked};
 ghost use Rattle.dd_plain.specs.MovesVisits.{HaveHome};
 
 use crate::moves::mark::Visit;
-use dd_blocks::{ArrayRow, Grid, Plan, What};
-
-/// Puts the space into `homes` to which a statement moves an array, where it does.
-pub(super) fn move_home(homes: &mut [u32], what: &What)
-    requires { HasArray (length homes.old) what.now }
-    ensures { homes.new ≡ homes_after homes.old what.now }
-{
-    if let What::MoveTo { array, space } = what {
-        homes[*array as usize - 1] = *space;
-    }
-}
+use dd_blocks::{ArrayRow, Grid, Plan};
 
 /// The row of an array.
 pub(super) fn array_of(plan: &Plan, array: u32) -> ArrayRow
