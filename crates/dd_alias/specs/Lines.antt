@@ -50,7 +50,7 @@ pub record IsBand (p : Pattern) (cols : Run) (b : Band) : Type 0 where
   pub facing : IsFacing p b.part
   pub diagonal : IsDiagonal p cols b.diagonal
 
--- strides and steps are multiples of a gap, so that the next rows of the run are as far from the line at each turn
+-- strides and steps are multiples of a gap, so that the next numbers some gaps from a row are as far from the line at each turn
 pub record IsGap (part : Part) (l : Line) (rows : Run) (w : Ways) (gap over under : ℕ) : Type 0 where
   pub above : 0 < gap
   pub small : gap < 2 ^ 63

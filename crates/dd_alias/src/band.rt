@@ -22,7 +22,8 @@ pub struct Band {
     pub part: Part,
     /// The row whose place is that of the column, for each common column.
     pub diagonal: Line,
-    /// How far the next common rows are from the diagonal. They are as far in each column.
+    /// How far it is from the diagonal, up and down, to the next number that is some gaps from a common row: as far in
+    /// each column. No common row that the part keeps is nearer.
     pub ways: Ways,
 }
 
@@ -60,8 +61,8 @@ impl Band {
     }
 }
 
-/// How far the next of some rows are from the diagonal, where a part doesn't keep what is nearer. All turns move the
-/// line, and all steps the rows, by multiples of the gap.
+/// How far it is from the diagonal, up and down, to the next number that is some gaps from a row, where a part doesn't
+/// keep what is nearer. All turns move the line, and all steps the rows, by multiples of the gap.
 fn ways(part: Part, diagonal: &Line, rows: &Run) -> Ways
     ensures { AreWays part diagonal.now rows.now result }
 {

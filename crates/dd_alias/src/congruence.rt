@@ -49,7 +49,7 @@ pub fn least_common(a: u64, b: u64) -> Option<u64>
     (turns * a).checked_add(a)
 }
 
-/// The greatest number that both are multiples of.
+/// A number that both are multiples of: the greatest, by Euclid's algorithm, though no answer rests on that.
 pub fn common_divisor(a: u64, b: u64) -> u64
     requires { 0 < b }
     ensures above { 0 < result }

@@ -52,9 +52,3 @@ IsUnreadOr Memory n line = Unit {0}
 abbrev pub is_task : Statement → Bool
 is_task (Task kernel scalar pieces) = true
 is_task _ = false
-
--- a block that is too large, on line n
-pub record IsFoundLarge (n : ℕ) (s : Above) (x : Statement) (fault : Fault) : Type 0 where
-  pub line : fault.line ≡ n
-  pub kind : fault.kind ≡ BlockTooLarge
-  pub large : HasLargeBlock s x fault.a fault.b

@@ -15,6 +15,8 @@ use Rattle.dd_blocks.specs.declared.grid.Grid.{Grid}
 use Rattle.dd_blocks.specs.Grids.{element_count}
 use Rattle.dd_meaning.specs.Text.{printed_row, printed}
 use Rattle.dd_plain.specs.Bands.{band_of, column_part}
+use Rattle.dd_plain.proofs.MovesSumsLemmas.{range-add}
+use Rattle.dd_plain.proofs.TaskLemmas.{same_map}
 
 -- pieces of one length
 length_pieces : (f : ℕ → List ℤ) (h a n : ℕ) → ((i : ℕ) → i < n → length (f (a + i)) ≡ h) → length (flat_map f (range_with_len a n)) ≡ n * h
@@ -26,17 +28,6 @@ length_pieces f h a (suc n) each =
     length-append (f a) (flat_map f (range_with_len (a + 1) n)) ∙ omega (arith, here, later)
 
 -- what agrees place by place
-map_alike : {X : Type 0} (f g : ℕ → X) (a b n : ℕ) → ((i : ℕ) → i < n → f (a + i) ≡ g (b + i)) → map f (range_with_len a n) ≡ map g (range_with_len b n)
-map_alike f g a b zero same = refl
-map_alike f g a b (suc n) same =
-    let none_a : a + 0 ≡ a = omega arith in
-    let none_b : b + 0 ≡ b = omega arith in
-    let head : f a ≡ g b = rw none_a at (rw none_b at (same 0 (omega arith))) in
-    rw head (ap (λ xs. g b ∷ xs) (map_alike f g (a + 1) (b + 1) n (λ i lt.
-    let next_a : a + 1 + i ≡ a + suc i = omega arith in
-    let next_b : b + 1 + i ≡ b + suc i = omega arith in
-    rw (next_a, next_b) (same (suc i) (omega arith)))))
-
 flat_map_alike : (f g : ℕ → List ℕ) (a b n : ℕ) → ((i : ℕ) → i < n → f (a + i) ≡ g (b + i)) → flat_map f (range_with_len a n) ≡ flat_map g (range_with_len b n)
 flat_map_alike f g a b zero same = refl
 flat_map_alike f g a b (suc n) same =
@@ -86,22 +77,12 @@ module _ (grid : Grid) (values : List ℤ) (first height : ℕ) (rows : AreRows 
   row_alike : (r : ℕ) → r < height → printed_row part (band_of grid values first height) (0 + r) ≡ printed_row grid values (first + r)
   row_alike r low =
       let zero_r : 0 + r ≡ r = omega arith in
-      rw zero_r (ap (λ (numbers : List (List ℕ)). join_with_byte 32 numbers ++ 10 ∷ []) (map_alike (λ j. signed_decimal (element (band_of grid values first height) (j * height + r))) (λ j. signed_decimal (element values (j * grid.rows + (first + r)))) 0 0 grid.cols (λ j lt. ap signed_decimal (band_element r (0 + j) low (omega arith)))))
+      rw zero_r (ap (λ (numbers : List (List ℕ)). join_with_byte 32 numbers ++ 10 ∷ []) (same_map (λ j. signed_decimal (element (band_of grid values first height) (j * height + r))) (λ j. signed_decimal (element values (j * grid.rows + (first + r)))) 0 0 grid.cols (λ j lt. ap signed_decimal (band_element r (0 + j) low (omega arith)))))
 
   pub band_printed : printed part (band_of grid values first height) ≡ flat_map (printed_row grid values) (range_with_len first height)
   band_printed = flat_map_alike (printed_row part (band_of grid values first height)) (printed_row grid values) 0 first height row_alike
 
 -- the next rows of those that are left
-joined : (a m n : ℕ) → range_with_len a m ++ range_with_len (a + m) n ≡ range_with_len a (m + n)
-joined a zero n =
-    let none : a + 0 ≡ a = omega arith in
-    let all : 0 + n ≡ n = omega arith in
-    rw (none, all) refl
-joined a (suc m) n =
-    let next : a + suc m ≡ a + 1 + m = omega arith in
-    let more : suc m + n ≡ suc (m + n) = omega arith in
-    rw (next, more) (ap (λ xs. a ∷ xs) (joined (a + 1) m n))
-
 pub next_band : (f : ℕ → List ℕ) (i h n : ℕ) → flat_map f (range_with_len i (n - i)) ≡ flat_map f (range_with_len i (min h (n - i))) ++ flat_map f (range_with_len (i + h) (n - (i + h)))
 next_band f i h n = ⊎_elim
     (λ (last : nat_lt (n - i) h ≡ true).
@@ -114,7 +95,7 @@ next_band f i h n = ⊎_elim
     let some : min h (n - i) ≡ h = omega arith in
     let whole : n - i ≡ h + (n - (i + h)) = omega arith in
     ap (λ (k : ℕ). flat_map f (range_with_len i k)) whole
-    ∙ ap (flat_map f) (sym (joined i h (n - (i + h))))
+    ∙ ap (flat_map f) (range-add i h (n - (i + h)))
     ∙ flat_map-append f (range_with_len i h) (range_with_len (i + h) (n - (i + h)))
     ∙ ap (λ (k : ℕ). flat_map f (range_with_len i k) ++ flat_map f (range_with_len (i + h) (n - (i + h)))) (sym some))
     (cases_Bool (nat_lt (n - i) h))

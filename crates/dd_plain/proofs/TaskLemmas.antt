@@ -24,6 +24,7 @@ use Rattle.dd_views.proofs.ViewLemmas.{length_view, view_few}
 use Rattle.dd_blocks.specs.declared.access_row.AccessRow.{AccessRow}
 use Rattle.dd_blocks.specs.Tasks.{kernel_shape}
 use Rattle.dd_meaning.specs.Worlds.{values_of}
+use Rattle.dd_plain.proofs.MovesSumsLemmas.{range-add}
 use Rattle.dd_plain.specs.Lending.{IsHeld, is_lent, is_run, keeps_all, uses_of}
 use Rattle.dd_plain.specs.Lists.{lists_of}
 use Rattle.dd_plain.proofs.LendingLemmas.{AreApart, AreAllApart}
@@ -52,13 +53,6 @@ same_map f g a b (suc n) same =
     let next_b : b + 1 + i ≡ b + suc i = omega arith in
     rw (next_a, next_b) (same (suc i) (omega arith)))))
 
-joined : (a m n : ℕ) → range_with_len a m ++ range_with_len (a + m) n ≡ range_with_len a (m + n)
-joined a zero n = let none : a + 0 ≡ a = omega arith in rw none (ap (range_with_len a) (omega arith))
-joined a (suc m) n =
-    let next : a + suc m ≡ a + 1 + m = omega arith in
-    let more : suc m + n ≡ suc (m + n) = omega arith in
-    rw (next, more) (ap (λ xs. a ∷ xs) (joined (a + 1) m n))
-
 columns_joined : (f : ℕ → List ℕ) (start height a n : ℕ) → ((j : ℕ) → j < n → f (suc (a + j)) ≡ range_with_len (start + (a + j) * height) height) → flat_map f (range_with_len (suc a) n) ≡ range_with_len (start + a * height) (n * height)
 columns_joined f start height a zero each = let none : 0 * height ≡ 0 = omega arith in rw none refl
 columns_joined f start height a (suc n) each =
@@ -68,7 +62,7 @@ columns_joined f start height a (suc n) each =
     let place : start + suc a * height ≡ start + a * height + height = omega arith in
     let all : height + n * height ≡ suc n * height = omega arith in
     let later = columns_joined f start height (suc a) n (λ j lt. let at : suc a + j ≡ a + suc j = omega arith in rw at (each (suc j) (omega arith))) in
-    rw (head, next, later, place) (joined (start + a * height) height (n * height) ∙ ap (range_with_len (start + a * height)) all)
+    rw (head, next, later, place) (sym (range-add (start + a * height) height (n * height)) ∙ ap (range_with_len (start + a * height)) all)
 
 filter_true : (xs : List ℕ) → filter (λ x. true) xs ≡ xs
 filter_true [] = refl

@@ -43,7 +43,7 @@ pub(crate) struct Run {
     /// The arrays, in the order of their numbers.
     world: Vec<Vec<i64>>,
     moves: Moves,
-    /// Room for a line of the text.
+    /// Room for the text that waits to be written.
     line: Vec<u8>,
     /// How many elements the regions moved so far, as far as a row below prints it.
     moved: u64,
@@ -129,7 +129,7 @@ fn run_region(
     Ok(())
 }
 
-/// Writes what a row prints. `line` is only room for a line of it.
+/// Writes what a row prints. `line` is only room for its text.
 fn write_row<O: Sink>(
     alloc: Global,
     plan: &Plan,
