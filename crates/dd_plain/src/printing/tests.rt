@@ -1,6 +1,6 @@
 //! Lines at values from outside, over sinks that take few bytes at a time and that fail.
 
-ghost use Rattle.std.specs.Prelude.{◌≡◌};
+ghost use Rattle.std.specs.Prelude.{◌≡◌, ◌≤◌};
 
 use super::*;
 use dd_io::MemSink;
