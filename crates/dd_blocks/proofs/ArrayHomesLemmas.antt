@@ -1,11 +1,11 @@
 -- The homes of arrays, row by row and array by array.
-use Rattle.std.proofs.Common.{◌≡◌, ◌≢◌, ℕ, ◌+◌, ◌-◌, ◌<◌, ◌≤◌, Bool, true, false, eqb, cond, List, [], ◌∷◌, ◌++◌, length, get_or, set, take, replicate, Option, None, Some, refl, sym, ap, ◌∙◌, subst, arith, ⊎_elim, get_or-set_other, get_or-set_same}
+use Rattle.std.proofs.Common.{◌≡◌, ◌≢◌, ℕ, ◌+◌, ◌-◌, ◌<◌, ◌≤◌, Bool, true, false, eqb, cond, List, [], ◌∷◌, ◌++◌, length, get_or, set, take, replicate, Option, None, Some, refl, sym, ap, ◌∙◌, arith, ⊎_elim, get_or-set_other, get_or-set_same}
 use Rattle.std.specs.List.{cons_option, last_or}
 use Rattle.std.specs.Option.{unwrap_or}
 use Rattle.std.proofs.lemmas.Bool.{cases_eq, cases_lt, ne_eqb}
 use Rattle.std.proofs.lemmas.Bool.Decides.{nat_tests}
-use Rattle.std.proofs.lemmas.List.{get_or-replicate, get_or_append_left, length-append, length-replicate, length-set, take_more}
-use Rattle.std.proofs.lemmas.List.Elements.{All-get_or, All-head, All-tail}
+use Rattle.std.proofs.lemmas.List.{get_or-replicate, get_or_append_left, length-append, length-replicate, length-set}
+use Rattle.std.proofs.lemmas.List.Elements.{All-head, All-tail}
 use Rattle.std.proofs.Math.Seq.{get_or-append_seam}
 use Rattle.dd_blocks.specs.declared.statement_row.StatementRow.{StatementRow}
 use Rattle.dd_blocks.specs.declared.what.What.{What}
@@ -66,14 +66,6 @@ moved_push arrays rows homes row has moved = record {
       ∙ ap (unwrap_or (space_moved_to n row.what)) (moved.each n low high)
       ∙ sym (home_push n 0 rows row);
 }
-
-pub moved_more : (arrays : ℕ) (rows : List StatementRow) (homes : List ℕ) (i : ℕ) (row : StatementRow) → i < length rows → HaveArrays arrays rows
-    → row ≡ get_or rows i row → AreMovedTo arrays (take i rows) homes → AreMovedTo arrays (take (i + 1) rows) (homes_after homes row.what)
-moved_more arrays rows homes i row lt have is moved =
-    let P : StatementRow → Type 0 = λ r. HasArray arrays r.what in
-    let has : HasArray arrays row.what = subst P (sym is) (All-get_or P rows i row lt have) in
-    let next : take i rows ++ row ∷ [] ≡ take (i + 1) rows = ap (λ (r : StatementRow). take i rows ++ r ∷ []) is ∙ sym (take_more rows i row lt) in
-    subst (λ (above : List StatementRow). AreMovedTo arrays above (homes_after homes row.what)) next (moved_push arrays (take i rows) homes row has moved)
 
 -- ---- array by array
 

@@ -1,12 +1,12 @@
 //! The kernels: what each is called, which accesses and shapes it takes, what it computes, and the plain
 //! way to do so.
 //!
-//! A kernel works on the buffers of its accesses, which the caller has gathered and will store back, as
-//! lists of Int64 in column-major order. [`kernel_named`] reads its name, [`signature_of`] and
-//! [`shapes_fit`] say what it takes. [`plain`] runs one on [`Args`] and changes the buffers in place;
-//! [`plain_on_one`], [`plain_on_two`] and [`plain_on_three`] run one on slices, which may be parts of larger
-//! lists. None of these takes memory. The kernels on packed triangles stand in the table, and are run elsewhere;
-//! [`addk`], [`axpy`] and [`combine`] are there for them.
+//! A kernel works on one list of Int64 for each of its accesses, in column-major order, and changes those that
+//! it writes in place. [`kernel_named`] reads its name, [`signature_of`] and [`shapes_fit`] say what it takes.
+//! [`plain`] runs one on [`Args`], the lists of all its accesses side by side; [`plain_on_one`],
+//! [`plain_on_two`] and [`plain_on_three`] run one on slices, which may be parts of larger lists. None of these
+//! takes memory. The kernels on packed triangles stand in the table, and are run elsewhere; [`addk`], [`axpy`]
+//! and [`combine`] are there for them.
 //!
 //! What a kernel computes is one equation of `specs/Table.antt`; the names stand in `specs/Names.antt`, the
 //! accesses in `specs/Signatures.antt`, the shapes in `specs/Shapes.antt`. [`laws`] has what holds of them: a
