@@ -31,6 +31,7 @@ pub fn sample(alloc: Global, accesses: &[Access]) -> Result<TaskRow, AllocError>
     })
 }
 
+/// A range that is no range of the array ends the test.
 fn add_access(rows: &mut Vec<AccessRow>, access: Access) -> Result<(), AllocError>
     requires { AreViewsBy (λ (n : ℕ). record { rows = 16; cols = 1 }) rows.old.items }
     ensures { OnOk result (AreViewsBy (λ (n : ℕ). record { rows = 16; cols = 1 }) rows.new.items) }
@@ -39,7 +40,7 @@ fn add_access(rows: &mut Vec<AccessRow>, access: Access) -> Result<(), AllocErro
     let shape = Shape { rows: 16, cols: 1 };
     let range = Range::Steps { first, step, last };
     let Ok(view) = view_of(array, shape, range, Range::All, Part::All) else {
-        return Ok(());
+        return Err(AllocError);
     };
     rows.push(AccessRow { view, mode })?;
     Ok(())

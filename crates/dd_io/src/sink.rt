@@ -15,7 +15,7 @@ pub trait Sink {
     /// Takes a front of the bytes, and answers how many those are: at least one of bytes that aren't none.
     ///
     /// # Errors
-    /// A fault, which the sink has counted; it counts nothing else. Nothing was taken then.
+    /// A fault, which the sink has counted. Nothing was taken then. Without a fault it counts nothing.
     fn write(&mut self, bytes: &[u8]) -> Result<usize, IoFault>
         ensures within { IfOk result (λ n. n ≤ length bytes.now) }
         ensures progress { 0 < length bytes.now → IfOk result (λ n. 0 < n) }

@@ -16,7 +16,7 @@ pub trait Source {
     /// that isn't empty is the end of the input.
     ///
     /// # Errors
-    /// A fault, which the source has counted; it counts nothing else. Nothing was taken then.
+    /// A fault, which the source has counted. Nothing was taken then. Without a fault it counts nothing.
     fn read(&mut self, buf: &mut [u8]) -> Result<usize, IoFault>
         ensures within { IfOk result (λ n. n ≤ length buf.new) }
         ensures taken { ReadConsumes (left self.old) (left self.new) result buf.new }

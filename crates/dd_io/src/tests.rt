@@ -19,7 +19,8 @@ fn pattern(alloc: Global, size: usize) -> Result<Vec<u8>, AllocError> {
 // how many bytes were taken then.
 #[test]
 fn reads_to_the_end_or_tells_why_not(rt: HostRuntime) -> Result<(), Fail> {
-    let cases: [(&str, usize, usize, &[u32], usize, Option<ReadEnd>, usize); 18] = [
+    let cases: [(&str, usize, usize, &[u32], usize, Option<ReadEnd>, usize); 19] = [
+        ("a fault behind the end", 20, 7, &[5], 100, None, 20),
         ("a byte a call", 20, 1, &[], 100, None, 20),
         ("seven bytes a call", 20, 7, &[], 100, None, 20),
         ("a mebibyte a call", 9000, MIB, &[], 9999, None, 9000),
@@ -202,6 +203,12 @@ fn reads_from_a_reader(rt: HostRuntime) -> Result<(), Fail> {
     assert_eq!(rt; all.as_slice(), bytes.as_slice());
     let failed = read_all(rt.alloc(), &mut StdSource::new(Closed), 9000);
     assert_eq!(rt; failed.err(), Some(ReadEnd::ReadFault));
+    let early = read_all(
+        rt.alloc(),
+        &mut StdSource::new(Shaky { failed: false }),
+        9000,
+    );
+    assert_eq!(rt; early.err(), Some(ReadEnd::ReadFault));
     let mut shaky = StdSource::new(Shaky { failed: false });
     assert_eq!(rt; shaky.read(&mut [0]), Err(IoFault));
     assert_eq!(rt; shaky.read(&mut [0]), Ok(0));
@@ -219,6 +226,8 @@ fn writes_to_a_writer(rt: HostRuntime) -> Result<(), Fail> {
     assert_eq!(rt; write_all(&mut StdSink::new(Closed), b"ab"), Err(IoFault));
     assert_eq!(rt; write_all(&mut StdSink::new(Stuck), b"ab"), Err(IoFault));
     assert_eq!(rt; StdSink::new(Stuck).write(b""), Ok(0));
+    let long = write_all(&mut StdSink::new(Shaky { failed: false }), &[b'.'; 9000]);
+    assert_eq!(rt; long, Err(IoFault));
     let mut shaky = StdSink::new(Shaky { failed: false });
     assert_eq!(rt; shaky.write(b"ab"), Err(IoFault));
     assert_eq!(rt; shaky.write(b"ab"), Ok(2));

@@ -16,7 +16,7 @@
 //! written, in their order; so are those of an array that a task of three accesses uses twice. Besides the vectors a
 //! run takes the buffers of one task, room for 16 rows of an array that is printed and for the text that waits to be
 //! written, and where a row prints what was moved and there are several spaces, a byte for each element, which says where
-//! the element is.
+//! the element is. How much that is no contract says.
 //!
 //! Inside, `world` fills the arrays, `gathering` and `storing` walk a view over an array, `runs` finds where elements
 //! stand one after the other, `lending` says which arrays a task may have, `computing` runs kernels, `task` runs tasks,

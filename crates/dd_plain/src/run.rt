@@ -23,8 +23,8 @@ use std::alloc::{AllocError, Global};
 /// Runs the tasks of a Plan one after the other on whole arrays, and writes the script's text, row by row.
 ///
 /// # Errors
-/// `WriteFault`, a fault of the sink, which has counted it, and `Memory`, want of memory. A front of the text was
-/// appended then, and nothing is written behind it.
+/// `WriteFault`, a fault of the sink, which has counted it, and `Memory`, want of memory. What was appended then is
+/// a front of the text.
 pub fn run_plain<O: Sink>(alloc: Global, plan: &Plan, out: &mut O) -> Result<(), PlainFault>
     requires { IsWellFormed plan.now }
     ensures all { OnOk result (Appends (O.taken out.old) (O.taken out.new) (text_of plan.now)) }

@@ -1,6 +1,6 @@
 //! How a line is cut into its tokens.
 
-ghost use Rattle.std.specs.Prelude.{◌≡◌, ℕ, ◌+◌, ◌<◌, ◌≤◌, ◌^◌, List, [], length, None, Ok, Err, All, IfOk, IfErr, IfSome};
+ghost use Rattle.std.specs.Prelude.{◌≡◌, ℕ, ◌+◌, ◌<◌, ◌≤◌, ◌^◌, List, [], length, None, Ok, Err, All, IfOk, IfErr, IfSome, vec_capacity};
 ghost use Rattle.dd_tokens.specs.declared.fault.LineFault.TheVariants.{BadForm, Memory};
 ghost use Rattle.dd_tokens.specs.declared.token.Token.{Token};
 ghost use Rattle.dd_tokens.specs.Bytes.{IsText};
@@ -31,6 +31,7 @@ pub fn tokens(alloc: Global, line: &[u8]) -> Result<Vec<Token>, LineFault>
 
     // A line without tokens takes no memory.
     ensures memory { result ≡ Err Memory → AreTokensOf line.now [] → ⊥ }
+    ensures room { IfOk result (λ ts. ts.items ≡ [] → vec_capacity ts ≡ 0) }
 {
     let code = before_comment(line);
     if !is_all_text(code) {

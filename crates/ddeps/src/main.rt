@@ -7,22 +7,28 @@
 use dd_io::{StdSink, StdSource};
 use dd_session::{CommandWords, Status, report, run_words};
 use std::alloc::AllocError;
+use std::env::{Env, FillError};
 use std::process::ExitCode;
-use std::{env, io};
 
-/// The words after the program's name. Where one is not UTF-8 there are none, and no command is so.
+/// In bytes, the longest word that is looked at. No command is longer.
+const WORD_LIMIT: usize = 256;
+
+/// The words after the program's name, whatever that is. Where one of them is not UTF-8, or longer than any command,
+/// there are none, and no command is so.
 fn command_words(rt: &HostRuntime) -> Result<CommandWords, AllocError> {
     let mut words = CommandWords::new(rt.alloc());
-    match env::args(rt) {
-        Ok(args) => {
-            for word in args.skip(1) {
-                words.push(word.as_str())?;
-            }
-            Ok(words)
+    for i in 1..usize::MAX {
+        let mut room = [0; WORD_LIMIT];
+        match rt.arg(i, &mut room) {
+            Ok(count) => match str::from_utf8(&room[..count]) {
+                Ok(word) => words.push(word)?,
+                Err(_) => return Ok(CommandWords::new(rt.alloc())),
+            },
+            Err(FillError::TooLong) => return Ok(CommandWords::new(rt.alloc())),
+            Err(FillError::NotPresent) => break,
         }
-        Err(e) if e.kind() == io::ErrorKind::OutOfMemory => Err(AllocError),
-        Err(_) => Ok(words),
     }
+    Ok(words)
 }
 
 fn main(rt: HostRuntime) -> ExitCode {

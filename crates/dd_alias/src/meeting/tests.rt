@@ -294,9 +294,11 @@ fn small_view(array: u32, size: Size, piece: Piece) -> Option<View>
 #[test]
 fn overlaps_are_those_of_the_lists(rt: HostRuntime) -> Result<(), Fail> {
     for i in 0..300 {
+        let mut judged = false;
         for k in 0..400 {
-            check_pair(&rt, i * 283, k * 211);
+            judged = check_pair(&rt, i * 283, k * 211) || judged;
         }
+        assert_eq!(rt; judged, small_view(1, (4, 5), piece(i * 283)).is_some());
     }
     Ok(())
 }
@@ -315,14 +317,17 @@ fn views_of_two_arrays_do_not_overlap(rt: HostRuntime) -> Result<(), Fail> {
     Ok(())
 }
 
-fn check_pair(rt: &impl Abort, one: u32, other: u32) {
-    if let (Some(a), Some(b)) = (
+/// Judges two views by their numbers, where both are views.
+fn check_pair(rt: &impl Abort, one: u32, other: u32) -> bool {
+    let (Some(a), Some(b)) = (
         small_view(1, (4, 5), piece(one)),
         small_view(1, (4, 5), piece(other)),
-    ) {
-        assert!(rt; a.height == b.height);
-        assert_eq!(rt; overlap(&a, &b), share(&a, &b), "{a:?} {b:?}");
-    }
+    ) else {
+        return false;
+    };
+    assert!(rt; a.height == b.height);
+    assert_eq!(rt; overlap(&a, &b), share(&a, &b), "{a:?} {b:?}");
+    true
 }
 
 /// A view of a 4 by 5 array by a number: its part, its rows and its columns.

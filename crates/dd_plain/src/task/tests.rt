@@ -101,8 +101,8 @@ fn copied(
     let read = view_of(1, size, from.0, from.1, from.2)?;
     let written = view_of(1, size, to.0, to.1, to.2)?;
     let mut buf = Vec::new(rt.alloc());
-    if gather(values, &read, &mut buf).is_ok() && buf.len() as u64 == written.len() {
-        store(values, &written, &buf);
-    }
+    let gathered = gather(values, &read, &mut buf).is_ok();
+    assert!(rt; gathered && buf.len() as u64 == written.len());
+    store(values, &written, &buf);
     Ok(())
 }
