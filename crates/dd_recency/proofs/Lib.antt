@@ -1,0 +1,4 @@
+pub mod RecencyLemmas
+pub mod BackwardsLemmas
+pub mod VictimLemmas
+mod VictimExamples
