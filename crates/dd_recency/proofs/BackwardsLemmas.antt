@@ -1,5 +1,5 @@
 -- What the iterator of a map or a set gives from its end, as a list.
-use Rattle.std.proofs.Common.{◌≡◌, ℕ, List, [], ◌∷◌, ◌++◌, map, reverse, length, Option, Some, None, refl, sym, ap, subst, ◌∙◌}
+use Rattle.std.proofs.Common.{◌≡◌, List, [], ◌∷◌, ◌++◌, map, reverse, length, Some, None, refl, sym, ap, subst, ◌∙◌}
 use Rattle.std.specs.declared.iter.Rev.{Rev}
 use Rattle.std.specs.Iterator.Adapters.{rev_source, rev_steps}
 use Rattle.std.specs.Map.Iter.{TakesLast}
@@ -11,9 +11,9 @@ pub map-reverse : {X Y : Type 0} (f : X → Y) (xs : List X) → map f (reverse 
 map-reverse f [] = refl
 map-reverse f (x ∷ xs) =
     ap (λ l. map f l) (reverse-append (x ∷ []) xs)
-      ∙ map_push f (reverse xs) x
-      ∙ ap (λ l. l ++ f x ∷ []) (map-reverse f xs)
-      ∙ sym (reverse-append (f x ∷ []) (map f xs))
+    ∙ map_push f (reverse xs) x
+    ∙ ap (λ l. l ++ f x ∷ []) (map-reverse f xs)
+    ∙ sym (reverse-append (f x ∷ []) (map f xs))
 
 module _ {A X : Type 0} (shows : A → X) where
   abbrev left : Rev (List X) → List X

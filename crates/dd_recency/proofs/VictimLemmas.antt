@@ -1,5 +1,5 @@
 -- What a search from one end of the list finds, and what holds of the block that goes first.
-use Rattle.std.proofs.Common.{◌≡◌, ℕ, Bool, true, false, not, cond, nat_eq, List, [], ◌∷◌, ◌++◌, reverse, filter, find, All, Contains, Option, Some, None, is_some, IsNone, IfSome, slice_get, refl, sym, ap, subst, ◌∙◌}
+use Rattle.std.proofs.Common.{◌≡◌, ℕ, Bool, true, false, not, cond, nat_eq, List, [], ◌∷◌, reverse, filter, find, All, Contains, Option, Some, None, is_some, IsNone, IfSome, slice_get, refl, sym, ap, ◌∙◌}
 use Rattle.std.specs.Cmp.{nat_eq_equiv, unsigned_Decides}
 use Rattle.std.specs.List.{last_or, list_any}
 use Rattle.std.specs.Option.{option_or}

@@ -1,5 +1,5 @@
 use Rattle.std.proofs.Common.{Contains, ◌<◌, length, sym, subst}
-use Rattle.dd_recency.proofs.RecencyLemmas.{added, order_added}
+use Rattle.dd_recency.proofs.CacheLemmas.{added, order_added}
 use Rattle.dd_recency.proofs.order.Order.add.Goals as goal
 
 pub invariant_of-self-2 : goal.invariant_of-self-2

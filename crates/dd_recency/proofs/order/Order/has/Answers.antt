@@ -1,6 +1,6 @@
 use Rattle.std.proofs.Common.{Contains, Decides, sym, subst}
 use Rattle.std.specs.Map.{keys_of}
-use Rattle.dd_recency.proofs.RecencyLemmas.{found_decides}
+use Rattle.dd_recency.proofs.CacheLemmas.{found_decides}
 use Rattle.dd_recency.proofs.order.Order.has.Goals as goal
 
 pub returns : goal.returns

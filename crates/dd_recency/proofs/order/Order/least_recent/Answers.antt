@@ -13,8 +13,8 @@ returns c =
     let free = is_free c.args.pinned.now in
     let es = c.self.inside.recent.entries in
     let entries = YieldsList-from_rev_rest deref_pair c.rev.result es (c.rev.ensures.source ∙ c.iter.ensures.rest) in
-    let found = find_from_yields_List free _ _ c.find.result c.find.ensures.ran (YieldsList-from_map _ (λ (e : ℕ × Unit {0}). e.0) (YieldsList-at c.map.ensures.source entries) c.map.ensures.closure (λ x r q k. search (rules, tests))) (λ x b q k. search (rules, tests)) in
+    let found = find_from_yields_List free c.find.new.self _ c.find.result c.find.ensures.ran (YieldsList-from_map _ (λ (e : ℕ × Unit {0}). e.0) (YieldsList-at c.map.ensures.source entries) c.map.ensures.closure (λ x r q k. search (rules, tests))) (λ x b q k. search (rules, tests)) in
     sym (option_map_id c.find.result) ∙ found
-      ∙ ap (find free) (map-reverse (λ (e : ℕ × Unit {0}). e.0) es)
-      ∙ ap (λ order. find free (reverse order.blocks)) c.self.view_is
-      ∙ victim_from_back c.args.pinned.now c.args.self.now.blocks
+    ∙ ap (find free) (map-reverse (λ (e : ℕ × Unit {0}). e.0) es)
+    ∙ ap (λ order. find free (reverse order.blocks)) c.self.view_is
+    ∙ victim_from_back c.args.pinned.now c.args.self.now.blocks

@@ -1,6 +1,6 @@
 use Rattle.std.proofs.Common.{Contains, Decides, is_some, sym, ap, subst, ◌∙◌}
 use Rattle.std.specs.Map.{keys_of}
-use Rattle.dd_recency.proofs.RecencyLemmas.{found_decides, keys_of-remove_entry, order_taken, unchanged}
+use Rattle.dd_recency.proofs.CacheLemmas.{found_decides, keys_of-remove_entry, order_taken, unchanged}
 use Rattle.dd_recency.proofs.order.Order.take.Goals as goal
 
 pub invariant_of-self : goal.invariant_of-self

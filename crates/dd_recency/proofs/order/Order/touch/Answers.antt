@@ -1,5 +1,5 @@
 use Rattle.std.proofs.Common.{Contains, sym, subst}
-use Rattle.dd_recency.proofs.RecencyLemmas.{order_touched, touched}
+use Rattle.dd_recency.proofs.CacheLemmas.{order_touched, touched}
 use Rattle.dd_recency.proofs.order.Order.touch.Goals as goal
 
 pub invariant_of-self : goal.invariant_of-self
