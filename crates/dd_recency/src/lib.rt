@@ -18,7 +18,7 @@
 //! [`Order::touch`], [`Order::add`], [`Order::take`] and [`Order::has`] look one number up in a hash table, in constant
 //! time where the numbers spread; its hashes have a fixed seed. [`Order::victim`] goes from one end of the list to the
 //! first block that isn't pinned, and through `pinned` for each block on the way: `pinned` is meant to be short. Only
-//! [`Order::new`] and [`Order::add`] take memory.
+//! [`Order::new`] and [`Order::add`] take memory, and now and then `add` moves the table to a larger one.
 //!
 //! Inside, an order is the kit's `LruCache` with the blocks as its keys and nothing as its values: a hash table whose
 //! entries are linked in the order of their use. The definitions stand in `specs/Recency.antt` and `specs/Victim.antt`.
