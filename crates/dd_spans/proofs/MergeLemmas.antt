@@ -1,5 +1,5 @@
 -- Two sorted lists that are walked side by side.
-use Rattle.std.proofs.Common.{◌≡◌, ℕ, ◌+◌, ◌<◌, ◌≤◌, Bool, true, false, not, cond, List, [], ◌∷◌, ◌++◌, length, get_or, drop, refl, sym, ap, ◌∙◌, subst, ⊎_elim, ◌⊎◌, ◌↔◌, arith}
+use Rattle.std.proofs.Common.{◌≡◌, ℕ, ◌+◌, ◌<◌, ◌≤◌, Bool, true, false, not, cond, List, [], ◌∷◌, ◌++◌, length, get_or, drop, sym, ap, ◌∙◌, subst, ⊎_elim, ◌⊎◌, ◌↔◌, arith}
 use mathlib.Core.Bool.{beq}
 use Rattle.std.specs.List.{All, Contains, filter}
 use Rattle.std.specs.List.Sorted.{IsStrictlyIncreasing}
@@ -11,7 +11,7 @@ use Rattle.dd_spans.specs.Numbers.{is_among, numbers_below, numbers_from, rising
 use Rattle.dd_spans.specs.Kept.{is_kept}
 use Rattle.dd_spans.proofs.RisingLemmas.{above_head, rises_append, rises_cons, rises_drop}
 use Rattle.dd_spans.proofs.MembersLemmas.{all_from_contains, contains_cases, contains_filter, contains_from_filter, contains_head, contains_tail, filter_same, is_among_decides}
-use Rattle.dd_spans.proofs.NumbersLemmas.{all_rising, below_contains, below_rises, contains_below, contains_from, contains_rising, from_contains, from_least, from_rises, rising_contains, rising_is, rising_itself, rising_rises}
+use Rattle.dd_spans.proofs.NumbersLemmas.{all_rising, below_contains, below_rises, contains_below, contains_from, contains_rising, from_contains, from_least, rising_contains, rising_is, rising_itself, rising_rises}
 
 -- ---- the numbers that are kept
 

@@ -46,6 +46,14 @@ const ROWS: [Row; 12] = [
     ],
 ];
 
+/// A way to merge two lists.
+#[derive(Clone, Copy)]
+enum Merge {
+    Meet,
+    Minus,
+    Union,
+}
+
 /// A list, a number, and the first run from it on.
 type RunRow = (&'static [u64], u64, Option<(u64, u64)>);
 
@@ -73,11 +81,9 @@ const RUN_ROWS: [RunRow; 18] = [
 #[test]
 fn lists_are_met_and_joined(rt: HostRuntime) -> Result<(), Fail> {
     for [first, second, both, alone, either] in &ROWS {
-        let runs = runs_of(&rt, rt.alloc(), first)?;
-        let other = runs_of(&rt, rt.alloc(), second)?;
-        check(&rt, rt.alloc(), &runs.meet(&other)?, both)?;
-        check(&rt, rt.alloc(), &runs.minus(&other)?, alone)?;
-        check(&rt, rt.alloc(), &runs.union(&other)?, either)?;
+        check_merged(&rt, rt.alloc(), Merge::Meet, first, second, both)?;
+        check_merged(&rt, rt.alloc(), Merge::Minus, first, second, alone)?;
+        check_merged(&rt, rt.alloc(), Merge::Union, first, second, either)?;
     }
     Ok(())
 }
@@ -103,14 +109,39 @@ fn are_small(list: &[u64]) -> bool
     list.iter().all(|n| *n < u64::MAX)
 }
 
-fn check(rt: &impl Abort, alloc: Global, runs: &Runs, wanted: &[u64]) -> Result<(), AllocError> {
-    let numbers = numbers_of(alloc, runs)?;
-    assert_eq!(rt; numbers.as_slice(), wanted);
+fn check_merged(
+    rt: &impl Abort,
+    alloc: Global,
+    merge: Merge,
+    first: &[u64],
+    second: &[u64],
+    wanted: &[u64],
+) -> Result<(), AllocError> {
+    let runs = runs_of(rt, alloc, first)?;
+    let other = runs_of(rt, alloc, second)?;
+    let merged = merged(&runs, &other, merge)?;
+    check_numbers(rt, numbers_of(alloc, &merged)?.as_slice(), wanted);
+    check_members(rt, &merged, wanted);
+    Ok(())
+}
+
+fn merged(runs: &Runs, other: &Runs, merge: Merge) -> Result<Runs, AllocError> {
+    match merge {
+        Merge::Meet => runs.meet(other),
+        Merge::Minus => runs.minus(other),
+        Merge::Union => runs.union(other),
+    }
+}
+
+fn check_numbers(rt: &impl Abort, numbers: &[u64], wanted: &[u64]) {
+    assert_eq!(rt; numbers, wanted);
+}
+
+fn check_members(rt: &impl Abort, runs: &Runs, wanted: &[u64]) {
     assert_eq!(rt; runs.len(), wanted.len() as u64, "{wanted:?}");
     for n in 0..12 {
         assert_eq!(rt; runs.has(n), wanted.contains(&n), "{n} in {wanted:?}");
     }
-    Ok(())
 }
 
 /// The numbers, run after run.

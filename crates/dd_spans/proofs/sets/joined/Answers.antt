@@ -1,4 +1,4 @@
-use Rattle.std.proofs.Common.{◌≡◌, ◌+◌, ◌∙◌, ◌++◌, get_or, drop, refl, arith}
+use Rattle.std.proofs.Common.{◌+◌, ◌∙◌, ◌++◌, get_or, refl, arith}
 use Rattle.dd_spans.specs.Numbers.{numbers_from, rising_numbers}
 use Rattle.dd_spans.proofs.NumbersLemmas.{from_rises}
 use Rattle.dd_spans.proofs.MergeLemmas.{union_all, union_next}

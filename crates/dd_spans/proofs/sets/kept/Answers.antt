@@ -1,4 +1,4 @@
-use Rattle.std.proofs.Common.{◌≡◌, ◌++◌, get_or, drop, refl, arith}
+use Rattle.std.proofs.Common.{get_or, refl, arith}
 use Rattle.std.specs.List.{filter}
 use Rattle.dd_spans.specs.Kept.{is_kept}
 use Rattle.dd_spans.proofs.NumbersLemmas.{from_least, from_rises}

@@ -1,4 +1,4 @@
-use Rattle.std.proofs.Common.{◌≡◌, ◌↔◌, ℕ, List}
+use Rattle.std.proofs.Common.{◌≡◌, ◌↔◌, ℕ}
 use Rattle.std.specs.List.{Contains, filter}
 use Rattle.std.proofs.lemmas.Result.{IfOk-weaker}
 use Rattle.dd_spans.specs.Numbers.{is_among}
