@@ -38,6 +38,9 @@ below_rises n ns = IsStrictlyIncreasing-filter (λ x. ltb x n) ns
 pub from_least : (n : ℕ) (ns : List ℕ) → All (λ m. n ≤ m) (numbers_from n ns)
 from_least n ns = all_from_contains (λ m. n ≤ m) (numbers_from n ns) (λ m has. (contains_from n ns m has).1)
 
+pub from_zero : (ns : List ℕ) → numbers_from 0 ns ≡ ns
+from_zero ns = filter_all (λ x. leb 0 x) ns (all_from_contains (λ m. leb 0 m ≡ true) ns (λ m has. le-leb 0 m (omega arith)))
+
 -- a list that is cut where its numbers are no longer below n
 pub cut_below : (n : ℕ) (ns : List ℕ) (c : ℕ) → All (λ m. m < n) (take c ns) → All (λ m. n ≤ m) (drop c ns) → take c ns ≡ numbers_below n ns
 cut_below n ns c below from =

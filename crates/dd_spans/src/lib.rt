@@ -14,18 +14,18 @@
 //! from 2 on, and `held.next_run(4)` is `Some((7, 1))`: so whoever goes on with the end of each run goes through all. The
 //! map is 0, 5, 5, 5, 0, 0, and `versions.same_until(1)` is 4.
 //!
-//! [`Runs`] is seen as its sorted list of numbers, [`RunMap`] as the list of its values and its spare: how many runs more
-//! it has memory for. A run that is set can split another in three, so setting it uses up to two, and takes no memory:
-//! [`RunMap::reserve`] takes it beforehand.
+//! [`Runs`] is seen as its sorted list of numbers, with the facts that they rise and are below 2^64 - 1. [`RunMap`] is seen
+//! as the list of its values, and its spare: how many runs more it has memory for. A run that is set can split another
+//! in three, so setting one uses up to two of them, and takes no memory: [`RunMap::reserve`] takes it beforehand.
 //!
-//! Sorting n numbers costs n log n. `meet`, `minus` and `union` go through both lists once; `has` and the start of
-//! `next_run` are a binary search, and the run is counted number by number. `set_run` writes each place of the run,
-//! and `same_until` reads each.
+//! Sorting n numbers costs n log n. `meet`, `minus` and `union` go through both lists once. `has` and the start of
+//! `next_run` are binary searches, and the run is counted number by number. `set_run` writes each place of the run, and
+//! `same_until` reads each.
 //!
-//! Inside, [`Runs`] keeps a vector of its numbers, and [`RunMap`] a vector with one value a place and its spare as a
-//! count, so `reserve` takes nothing. `sets` makes and merges sorted lists, `cut` has where one is cut at a number, and `run` how
-//! far its numbers follow each other. What holds of sorted numbers as a whole stands in [`laws`]. The definitions of `specs/Kept.antt` are
-//! cited by private contracts alone.
+//! Inside, [`Runs`] keeps a vector of its numbers, and [`RunMap`] a vector with one value a place, and its spare as a count,
+//! so that `reserve` takes nothing. `sets` makes and merges sorted lists, `cut` has where one is cut at a number, and `run`
+//! how far its numbers follow each other. What holds of sorted numbers as a whole stands in [`laws`]. The definition of
+//! `specs/Kept.antt` is cited by private contracts alone.
 #![tactic(auto)]
 
 mod cut;

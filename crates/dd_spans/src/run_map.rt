@@ -24,6 +24,9 @@ impl Model for RunMap {
 
 impl RunMap {
     /// A map of so many places, each with the value.
+    ///
+    /// # Errors
+    /// Want of memory.
     pub fn new(alloc: Global, len: u64, value: u32) -> Result<RunMap, AllocError>
         ensures { IfOk result (λ map. map ≡ record { list = replicate len value; spare = 0 }) }
     {
@@ -40,6 +43,7 @@ impl RunMap {
         self.values.len() as u64
     }
 
+    /// The value of a place.
     pub fn get(&self, place: u64) -> u32
         requires { place < length self.now.list }
         ensures { result ≡ slice_index self.now.list place }
@@ -65,7 +69,10 @@ impl RunMap {
         self.len()
     }
 
-    /// Takes memory for so many runs more. After want of memory the places have the values that they had.
+    /// Makes the spare at least so many runs.
+    ///
+    /// # Errors
+    /// Want of memory. The places have the values that they had, and the spare is no smaller.
     pub fn reserve(&mut self, runs: u64) -> Result<(), AllocError>
         ensures ok { OnOk result (runs ≤ self.new.spare) }
         ensures list { self.new.list ≡ self.old.list }

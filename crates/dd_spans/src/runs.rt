@@ -12,7 +12,8 @@ use crate::sets::{joined, kept, rising};
 use std::alloc::{AllocError, Global};
 use std::marker::Model;
 
-/// Numbers below 2^64 - 1, in rising order, none twice.
+/// Numbers below 2^64 - 1, in rising order, none twice. Whoever makes new ones of them may want memory, the one error
+/// that there is.
 #[derive(Debug, Drop)]
 pub struct Runs {
     numbers: Vec<u64>,
@@ -48,6 +49,7 @@ impl Runs {
         self.numbers.len() as u64
     }
 
+    /// Whether a number is there.
     pub fn has(&self, n: u64) -> bool
         ensures { IsTrue result ↔ Contains self.now.list n }
     {
