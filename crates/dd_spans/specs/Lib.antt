@@ -1,0 +1,5 @@
+pub mod Numbers
+pub mod SortedNumbers
+pub mod NextRun
+pub mod PlaceMap
+pub mod Kept
