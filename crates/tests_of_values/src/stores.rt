@@ -1,17 +1,16 @@
+ghost use Rattle.std.specs.Prelude.{◌≡◌, IfOk};
+
 use dd_store::{MemStore, NeverFails, Slot, Store, StoreFault, append_values, encode, read_values};
-use std::alloc::Global;
+use std::alloc::{AllocError, Global};
 use std::process::Abort;
 use std::test::Fail;
 
 const DISK: Option<StoreFault> = Some(StoreFault::Disk);
 
 // A store whose calls with these numbers fail. No call has the number 0.
-fn failing(
-    alloc: Global,
-    make: u32,
-    append: u32,
-    read: u32,
-) -> Result<MemStore, std::alloc::AllocError> {
+fn failing(alloc: Global, make: u32, append: u32, read: u32) -> Result<MemStore, AllocError>
+    ensures { IfOk result (λ store. store.made ≡ 0) }
+{
     let makes = [make].to_vec(alloc)?;
     let appends = [append].to_vec(alloc)?;
     let reads = [read].to_vec(alloc)?;
