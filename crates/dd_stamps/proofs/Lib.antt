@@ -1,0 +1,4 @@
+pub mod TakenLemmas
+pub mod CellsLemmas
+pub mod StoredLemmas
+pub mod Crossing
