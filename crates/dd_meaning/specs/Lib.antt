@@ -3,3 +3,4 @@ pub mod Steps
 pub mod Versions
 pub mod Moves
 pub mod Text
+pub mod RegionRows

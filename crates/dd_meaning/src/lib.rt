@@ -9,5 +9,7 @@
 //! How many elements a region has to move follows from where its tasks are placed: which task wrote an element last
 //! (`specs/Versions.antt`), in which space that version is made, and where it is wanted (`specs/Moves.antt`).
 //!
-//! The crate holds these definitions and, in `proofs/`, examples of them. It has no calls.
+//! The crate holds these definitions and, in `proofs/`, lemmas and examples of them. Its only calls are its [`laws`].
 #![tactic(auto)]
+
+pub mod laws;

@@ -7,7 +7,7 @@ use Rattle.dd_blocks.specs.declared.array_row.ArrayRow.{ArrayRow}
 use Rattle.dd_blocks.specs.Grids.{element_count}
 use Rattle.dd_blocks.specs.Numbered.{numbered, no_array}
 use Rattle.dd_blocks.specs.declared.access_row.AccessRow.{AccessRow}
-use Rattle.dd_blocks.specs.Conflicts.{writes}
+use Rattle.dd_blocks.specs.Elements.{writes}
 use Rattle.dd_kernels.proofs.ListsLemmas.{ap2}
 use Rattle.dd_views.specs.IndexList.{index_list}
 use Rattle.dd_meaning.specs.Steps.{put_at, stored_one}
