@@ -6,3 +6,4 @@ pub mod Text
 pub mod Values
 pub mod Written
 pub mod Lists
+pub mod RegionRows
