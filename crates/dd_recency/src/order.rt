@@ -137,6 +137,3 @@ impl Order {
             .find(|block| !pinned.contains(block))
     }
 }
-
-#[cfg(test)]
-mod tests;

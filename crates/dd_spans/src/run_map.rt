@@ -96,6 +96,3 @@ impl RunMap {
         self.spare -= 2;
     }
 }
-
-#[cfg(test)]
-mod tests;

@@ -118,6 +118,3 @@ impl Runs {
         search_from(&self.numbers, from)
     }
 }
-
-#[cfg(test)]
-mod tests;
