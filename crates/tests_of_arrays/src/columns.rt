@@ -1,8 +1,8 @@
 //! The columns of views, one after the other, are their positions.
-ghost use Rattle.std.specs.Prelude.{IfSome};
 ghost use Rattle.dd_views.specs.Views.{IsView};
 
-use dd_views::{Column, Part, Range, Shape, View, view_of};
+use crate::small_views::{PARTS, small_view};
+use dd_views::{Column, Part, Range, View};
 use std::process::Abort;
 use std::test::Fail;
 
@@ -11,15 +11,6 @@ type Row = (&'static str, u32, u32, Range, Range);
 
 /// A name, and the rows and the columns of a square view of an array of 17 rows and 13 columns.
 type SquareRow = (&'static str, Range, Range);
-
-const PARTS: [Part; 6] = [
-    Part::All,
-    Part::Lower,
-    Part::Upper,
-    Part::UnitLower,
-    Part::UnitUpper,
-    Part::Diag,
-];
 
 const SQUARES: [SquareRow; 10] = [
     (
@@ -176,24 +167,10 @@ fn columns_of_rectangles(rt: HostRuntime) -> Result<(), Fail> {
 }
 
 fn check_view(rt: &impl Abort, row: &Row, part: Part) {
-    match small_view(row, part) {
-        Some(view) => check_columns(rt, row.0, &view),
-        None => assert!(rt; false, "{}", row.0),
-    }
-}
-
-fn small_view(row: &Row, part: Part) -> Option<View>
-    ensures { IfSome result IsView }
-{
-    let (_, height, width, rows, cols) = *row;
-    if height < 100 && width < 100 {
-        let shape = Shape {
-            rows: height,
-            cols: width,
-        };
-        view_of(1, shape, rows, cols, part).ok()
-    } else {
-        None
+    let (name, height, width, rows, cols) = *row;
+    match small_view(1, (height, width), rows, cols, part) {
+        Some(view) => check_columns(rt, name, &view),
+        None => assert!(rt; false, "{name}"),
     }
 }
 

@@ -2,7 +2,8 @@
 //! `dd_blocks`, `dd_alias`, `dd_place`, `dd_spans` and `dd_recency`.
 //!
 //! This crate has tests alone, and no other crate stands on it. Each module is one noun: a table of rows whose answers
-//! come from outside, and the helpers that ask for them. `samples` makes tasks for two of them.
+//! come from outside, and the helpers that ask for them. `samples` makes tasks and `small_views` views for several of
+//! them.
 #![tactic(auto)]
 
 #[cfg(test)]
@@ -31,6 +32,8 @@ mod ranges;
 mod run_maps;
 #[cfg(test)]
 mod samples;
+#[cfg(test)]
+mod small_views;
 #[cfg(test)]
 mod sorted_numbers;
 #[cfg(test)]

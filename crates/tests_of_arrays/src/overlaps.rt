@@ -2,16 +2,11 @@
 ghost use Rattle.std.specs.Prelude.{◌<◌, IfSome};
 ghost use Rattle.dd_views.specs.Views.{IsView};
 
+use crate::small_views::{PARTS, Size, Steps, small_view, steps};
 use dd_alias::overlap;
-use dd_views::{Part, Range, Shape, View, view_of};
+use dd_views::{Part, View};
 use std::process::Abort;
 use std::test::Fail;
-
-/// Rows and columns.
-type Size = (u32, u32);
-
-/// The first of a range, its step and its last.
-type Steps = (i64, i64, i64);
 
 /// The rows, the columns and the part of a view.
 type Piece = (Steps, Steps, Part);
@@ -239,21 +234,7 @@ const ROWS: [Row; 31] = [
     ),
 ];
 
-const PARTS: [Part; 6] = [
-    Part::All,
-    Part::Lower,
-    Part::Upper,
-    Part::UnitLower,
-    Part::UnitUpper,
-    Part::Diag,
-];
-
 const STEPS: [i64; 6] = [1, 2, 3, -1, -2, -3];
-
-fn steps(range: Steps) -> Range {
-    let (first, step, last) = range;
-    Range::Steps { first, step, last }
-}
 
 #[test]
 fn views_overlap(rt: HostRuntime) -> Result<(), Fail> {
@@ -265,7 +246,7 @@ fn views_overlap(rt: HostRuntime) -> Result<(), Fail> {
 
 fn check_row(rt: &impl Abort, row: &Row) {
     let (name, size, one, other, wanted) = *row;
-    match (small_view(1, size, one), small_view(1, size, other)) {
+    match (piece_view(1, size, one), piece_view(1, size, other)) {
         (Some(a), Some(b)) => {
             assert!(rt; a.height == b.height);
             assert_eq!(rt; overlap(&a, &b), wanted, "{name}");
@@ -275,18 +256,11 @@ fn check_row(rt: &impl Abort, row: &Row) {
     }
 }
 
-fn small_view(array: u32, size: Size, piece: Piece) -> Option<View>
+fn piece_view(array: u32, size: Size, piece: Piece) -> Option<View>
     ensures { IfSome result IsView }
 {
-    if size.0 < 65536 && size.1 < 65536 {
-        let shape = Shape {
-            rows: size.0,
-            cols: size.1,
-        };
-        view_of(array, shape, steps(piece.0), steps(piece.1), piece.2).ok()
-    } else {
-        None
-    }
+    let (rows, cols, part) = piece;
+    small_view(array, size, steps(rows), steps(cols), part)
 }
 
 /// Some views of a 4 by 5 array against some others: those that are had of all ranges and parts by going on by
@@ -298,7 +272,7 @@ fn overlaps_are_those_of_the_lists(rt: HostRuntime) -> Result<(), Fail> {
         for k in 0..400 {
             judged = check_pair(&rt, i * 283, k * 211) || judged;
         }
-        assert_eq!(rt; judged, small_view(1, (4, 5), piece(i * 283)).is_some());
+        assert_eq!(rt; judged, piece_view(1, (4, 5), piece(i * 283)).is_some());
     }
     Ok(())
 }
@@ -306,7 +280,7 @@ fn overlaps_are_those_of_the_lists(rt: HostRuntime) -> Result<(), Fail> {
 #[test]
 fn views_of_two_arrays_do_not_overlap(rt: HostRuntime) -> Result<(), Fail> {
     let whole = ((1, 1, 4), (1, 1, 5), Part::All);
-    match (small_view(1, (4, 5), whole), small_view(2, (4, 5), whole)) {
+    match (piece_view(1, (4, 5), whole), piece_view(2, (4, 5), whole)) {
         (Some(a), Some(b)) => {
             assert!(rt; a.height == b.height);
             assert!(rt; overlap(&a, &a));
@@ -320,8 +294,8 @@ fn views_of_two_arrays_do_not_overlap(rt: HostRuntime) -> Result<(), Fail> {
 /// Judges two views by their numbers, where both are views.
 fn check_pair(rt: &impl Abort, one: u32, other: u32) -> bool {
     let (Some(a), Some(b)) = (
-        small_view(1, (4, 5), piece(one)),
-        small_view(1, (4, 5), piece(other)),
+        piece_view(1, (4, 5), piece(one)),
+        piece_view(1, (4, 5), piece(other)),
     ) else {
         return false;
     };

@@ -1,6 +1,7 @@
 //! Placements at values from outside.
 ghost use Rattle.std.specs.Prelude.{◌≡◌, ◌^◌, ◌-◌, ◌*◌, ◌<◌, All, AllPairs, IfOk, IfSome, IsTrue, length};
 ghost use Rattle.dd_blocks.specs.Limits.{procs_limit};
+ghost use Rattle.dd_blocks.specs.Lives.{region_run};
 ghost use Rattle.dd_blocks.specs.Numbered.{IsNumberIn, array_row};
 ghost use Rattle.dd_blocks.specs.Tasks.{shape_in};
 ghost use Rattle.dd_blocks.specs.WellFormed.{IsFromOneTo};
@@ -13,6 +14,7 @@ mod leading_accesses;
 mod pieces;
 mod turns;
 
+use crate::small_views::steps;
 use block_homes::HOMES;
 use cases::{Case, Step};
 use dd_blocks::{
@@ -21,10 +23,10 @@ use dd_blocks::{
 };
 use dd_kernels::{Kernel, Mode};
 use dd_place::place;
-use dd_views::{Items, Range, Shape, view_of};
+use dd_views::{Items, Shape, view_of};
 use layout::{ARRAYS, BLOCKS};
 use leading_accesses::ACCESSES;
-use pieces::{Piece, Steps};
+use pieces::Piece;
 use std::alloc::{AllocError, Global};
 use std::process::Abort;
 use std::test::Fail;
@@ -134,11 +136,6 @@ fn small_shape(plan: &Plan, array: u32) -> Option<Shape>
         rows: grid.rows,
         cols: grid.cols,
     })
-}
-
-fn steps(range: Steps) -> Range {
-    let (first, step, last) = range;
-    Range::Steps { first, step, last }
 }
 
 fn plan_of(alloc: Global, rule: Rule, case: &Case) -> Result<Plan, AllocError> {
@@ -260,7 +257,7 @@ fn rise(rows: &[StatementRow]) -> bool
 {
     let mut last = 0;
     for row in rows {
-        let What::Region(run) = row.what else {
+        let Some(run) = region_run(&row.what) else {
             continue;
         };
         if run <= last {
@@ -269,4 +266,13 @@ fn rise(rows: &[StatementRow]) -> bool
         last = run;
     }
     true
+}
+
+fn region_run(what: &What) -> Option<u32>
+    ensures { result ≡ region_run what.now }
+{
+    match what {
+        What::Region(region) => Some(*region),
+        _ => None,
+    }
 }

@@ -1,14 +1,10 @@
 //! Views at values from outside.
-ghost use Rattle.std.specs.Prelude.{◌<◌, ◌^◌, length, IfSome};
-ghost use Rattle.dd_views.specs.IndexList.{index_list};
 ghost use Rattle.dd_views.specs.Views.{IsView};
 
+use crate::small_views::{PARTS, Size, small_view};
 use dd_views::{Part, Range, Shape, View, ViewFault, view_of};
 use std::process::Abort;
 use std::test::Fail;
-
-/// Rows and columns.
-type Size = (u32, u32);
 
 /// The size of a view and its positions.
 type Listed = (Size, &'static [u64]);
@@ -21,15 +17,6 @@ type SquareRow = (&'static str, Size, Range, Range, [Listed; 6]);
 
 /// A name, the size of an array, the rows, the columns and the part of a view, and why it is refused.
 type FaultRow = (&'static str, Size, Range, Range, Part, ViewFault);
-
-const PARTS: [Part; 6] = [
-    Part::All,
-    Part::Lower,
-    Part::Upper,
-    Part::UnitLower,
-    Part::UnitUpper,
-    Part::Diag,
-];
 
 const SQUARES: [SquareRow; 4] = [
     (
@@ -330,26 +317,12 @@ fn check_square(rt: &impl Abort, row: &SquareRow) {
 
 fn check_view(rt: &impl Abort, row: &ViewRow) {
     let (name, size, rows, cols, part, wanted) = *row;
-    match small_view(size, rows, cols, part) {
+    match small_view(1, size, rows, cols, part) {
         Some(view) => {
             check_shape(rt, name, &view, wanted.0);
             check_positions(rt, name, &view, wanted.1);
         }
         None => assert!(rt; false, "{name}"),
-    }
-}
-
-fn small_view(size: Size, rows: Range, cols: Range, part: Part) -> Option<View>
-    ensures { IfSome result IsView }
-{
-    if size.0 < 100 && size.1 < 100 {
-        let shape = Shape {
-            rows: size.0,
-            cols: size.1,
-        };
-        view_of(1, shape, rows, cols, part).ok()
-    } else {
-        None
     }
 }
 

@@ -1,9 +1,7 @@
 //! Pieces of the arrays that tasks use.
 
+use crate::small_views::Steps;
 use dd_views::Part;
-
-/// The first of a range, its step and its last.
-pub type Steps = (i64, i64, i64);
 
 /// An array, rows, columns and a part.
 pub type Piece = (u32, Steps, Steps, Part);

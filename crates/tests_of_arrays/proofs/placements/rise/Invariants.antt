@@ -1,5 +1,5 @@
 use Rattle.std.proofs.Common.{take}
-use Rattle.dd_place.proofs.RisingLemmas.{RiseTo}
+use Rattle.tests_of_arrays.proofs.RisingLemmas.{RiseTo}
 use Rattle.tests_of_arrays.proofs.placements.rise.Given as goal
 
 abbrev pub invariant-loop-row : goal.invariant-loop-row
