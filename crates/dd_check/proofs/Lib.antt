@@ -58,3 +58,5 @@ pub mod OneEnteredLemmas
 pub mod OneFoundLemmas
 pub mod OneLineLemmas
 pub mod OneTextLemmas
+pub mod SomeRowsLemmas
+pub mod EveryTextLemmas
