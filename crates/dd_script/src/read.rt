@@ -81,6 +81,3 @@ pub fn statement_of(
     }
     Ok(Some(statement_by(alloc, line, tokens)?))
 }
-
-#[cfg(test)]
-mod tests;
