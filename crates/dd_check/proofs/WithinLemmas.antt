@@ -12,7 +12,7 @@ use Rattle.dd_blocks.specs.Numbered.{IsNumberIn, array_row, no_array}
 use Rattle.dd_blocks.specs.Tasks.{IsShown, shape_in}
 use Rattle.dd_blocks.specs.WellFormed.{IsWellFormed}
 use Rattle.dd_blocks.proofs.GridLemmas.{block_within}
-use Rattle.dd_place.specs.Premises.{HasBlocks}
+use Rattle.dd_blocks.specs.OfPlan.{HasBlocks}
 use Rattle.dd_place.proofs.PremisesLemmas.{can_place}
 use Rattle.dd_check.specs.Above.{Above, settle}
 use Rattle.dd_check.specs.Sound.{IsSound}

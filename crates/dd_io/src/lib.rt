@@ -18,7 +18,6 @@
 //! and `specs/Edge.antt`.
 #![tactic(auto)]
 
-mod calls;
 mod fault;
 mod mem_sink;
 mod mem_source;
@@ -40,6 +39,3 @@ pub use source::Source;
 pub use std_sink::StdSink;
 pub use std_source::StdSource;
 pub use writing::write_all;
-
-#[cfg(test)]
-mod tests;

@@ -7,3 +7,7 @@ pub mod TextLemmas
 pub mod SmallPlans
 mod MovesExamples
 mod StepsExamples
+pub mod FillLemmas
+pub mod WorldLemmas
+pub mod ValuesLemmas
+pub mod StoredLemmas

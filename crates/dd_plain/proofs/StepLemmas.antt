@@ -32,7 +32,8 @@ use Rattle.dd_plain.proofs.LendingLemmas.{AllComeBack, AreApart, AreAllApart, Ar
 use Rattle.dd_plain.proofs.ReadLemmas.{StayWhereRead, reads_stay}
 use Rattle.dd_plain.proofs.TaskLemmas.{holds_values, lent_apart, long_view}
 use Rattle.dd_plain.proofs.WalkLemmas.{elements_run}
-use Rattle.dd_plain.proofs.WorldLemmas.{as_many, has_size, length_put, put_whole, same_written, stored_sizes, values_written}
+use Rattle.dd_meaning.proofs.WorldLemmas.{length_put, put_whole, same_written, stored_sizes, values_written}
+use Rattle.dd_plain.proofs.SizesLemmas.{as_many, has_size}
 
 -- what is held of accesses may be held of them, also after it was written
 pub are_held : (arrays : List ArrayRow) (lent : AccessRow → Bool) (world : World) (accesses : List AccessRow) → HasSizes arrays world → All (IsInArray arrays) accesses → AreHeld lent accesses (map (held lent world) accesses)

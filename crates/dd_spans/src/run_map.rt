@@ -36,6 +36,19 @@ impl RunMap {
         })
     }
 
+    /// The same values, and the same spare, in memory of their own.
+    ///
+    /// # Errors
+    /// Want of memory.
+    pub fn duplicate(&self) -> Result<RunMap, AllocError>
+        ensures { IfOk result (λ map. map ≡ self.now) }
+    {
+        Ok(RunMap {
+            values: self.values.clone()?,
+            spare: self.spare,
+        })
+    }
+
     /// How many places there are.
     pub fn len(&self) -> u64
         ensures { result ≡ length self.now.list }
@@ -96,6 +109,3 @@ impl RunMap {
         self.spare -= 2;
     }
 }
-
-#[cfg(test)]
-mod tests;

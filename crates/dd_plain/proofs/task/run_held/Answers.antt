@@ -4,7 +4,7 @@ use Rattle.dd_plain.specs.Lending.{AreHeld, is_lent}
 use Rattle.dd_plain.specs.Lists.{lists_of}
 use Rattle.dd_plain.proofs.StepLemmas.{are_held, length_without_all, step_sizes, still_held, task_stepped, there}
 use Rattle.dd_lists.proofs.VectorsLemmas.{items_written}
-use Rattle.dd_plain.proofs.WorldLemmas.{as_many}
+use Rattle.dd_plain.proofs.SizesLemmas.{as_many}
 use Rattle.dd_plain.proofs.task.run_held.Goals as goal
 
 pub compute-requires-clause-held : goal.compute-requires-clause-held
