@@ -52,3 +52,6 @@ all_places test a (suc n) all =
     let e : a + 0 ≡ a = omega arith in
     and_from (test a) (list_all test (range_with_len (a + 1) n)) (ap test (sym e) ∙ all 0 (omega arith))
     (all_places test (a + 1) n (λ i lt. let f : (a + 1) + i ≡ a + suc i = omega arith in ap test f ∙ all (suc i) (omega (arith, lt))))
+
+pub all_below : (test : ℕ → Bool) (n : ℕ) → ((i : ℕ) → i < n → test i ≡ true) → list_all test (range_with_len 0 n) ≡ true
+all_below test n each = all_places test 0 n (λ i lt. let e : 0 + i ≡ i = omega arith in ap test e ∙ each i lt)
