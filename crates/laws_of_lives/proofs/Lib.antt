@@ -1,0 +1,13 @@
+pub mod MadeLemmas
+pub mod LiveKept
+pub mod PlaceKept
+pub mod OutsideKept
+pub mod TasksKept
+pub mod LayoutLemmas
+pub mod EventsLemmas
+pub mod RowsLemmas
+pub mod RegionsLemmas
+pub mod OrderlyLemmas
+pub mod ElementsLemmas
+pub mod HomesOfRows
+pub mod LivesKept
