@@ -5,5 +5,10 @@
 //! which front of it was appended (`specs/Appended.antt`). A reader that may stop at each step is
 //! defined by its steps (`specs/Steps.antt`).
 //!
-//! The crate holds these definitions and, in `proofs/`, the lemmas on them that several crates cite. It has no calls.
+//! The crate holds these definitions and, in `proofs/`, the lemmas on them that several crates cite. Its one call,
+//! `next_fails`, serves the objects in memory that fail at the calls that they are told.
 #![tactic(auto)]
+
+mod calls;
+
+pub use calls::next_fails;

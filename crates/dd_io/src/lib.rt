@@ -18,7 +18,6 @@
 //! and `specs/Edge.antt`.
 #![tactic(auto)]
 
-mod calls;
 mod fault;
 mod mem_sink;
 mod mem_source;

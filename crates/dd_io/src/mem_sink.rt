@@ -2,9 +2,9 @@ ghost use Rattle.std.specs.Prelude.{◌≡◌, ◌+◌, ◌-◌, ◌<◌, ◌≤
 ghost use Rattle.std.specs.Io.KnownBytes.{WriteAppends};
 ghost use Rattle.dd_causes.specs.Counts.{FailsOnlyIfRose, one_more};
 
-use crate::calls::next_fails;
 use crate::fault::IoFault;
 use crate::sink::Sink;
+use dd_causes::next_fails;
 use std::alloc::{AllocError, Global};
 use std::marker::Model;
 

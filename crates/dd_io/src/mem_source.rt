@@ -2,9 +2,9 @@ ghost use Rattle.std.specs.Prelude.{◌≡◌, ◌+◌, ◌≤◌, min, ◌++◌
 ghost use Rattle.std.specs.Io.KnownBytes.{ReadConsumes};
 ghost use Rattle.dd_causes.specs.Counts.{FailsOnlyIfRose, one_more};
 
-use crate::calls::next_fails;
 use crate::fault::IoFault;
 use crate::source::Source;
+use dd_causes::next_fails;
 use std::marker::Model;
 
 /// A source of bytes in memory, which gives few of them at a time and fails at the calls that it is told.

@@ -1,3 +1,7 @@
 pub mod SmallPlans
 mod MovesExamples
 mod StepsExamples
+pub mod FillLemmas
+pub mod WorldLemmas
+pub mod ValuesLemmas
+pub mod StoredLemmas

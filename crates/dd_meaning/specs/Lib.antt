@@ -3,3 +3,5 @@ pub mod Steps
 pub mod Versions
 pub mod Moves
 pub mod Text
+pub mod Values
+pub mod Written

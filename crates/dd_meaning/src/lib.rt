@@ -9,5 +9,8 @@
 //! How many elements a region has to move follows from where its tasks are placed: which task wrote an element last
 //! (`specs/Versions.antt`), in which space that version is made, and where it is wanted (`specs/Moves.antt`).
 //!
-//! The crate holds these definitions and, in `proofs/`, examples of them. It has no calls.
+//! The value of one element after so many tasks (`specs/Values.antt`) is what the last of them that writes it stored
+//! (`specs/Written.antt`): `proofs/ValuesLemmas.antt` shows that it stays where no task writes the element.
+//!
+//! The crate holds these definitions and, in `proofs/`, laws and examples of them. It has no calls.
 #![tactic(auto)]

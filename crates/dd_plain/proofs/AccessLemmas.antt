@@ -17,7 +17,8 @@ use Rattle.dd_meaning.specs.Worlds.{World, values_of}
 use Rattle.dd_plain.specs.Lending.{AreHeld, AreThere, all_back_in, back_in, held, without, without_all}
 use Rattle.dd_plain.specs.Sizes.{HasSizeOf, HasSizes, IsInArray}
 use Rattle.dd_plain.proofs.LendingLemmas.{AreApart, AreAllApart, length_without, length_stored, without_beside}
-use Rattle.dd_plain.proofs.WorldLemmas.{has_size, stored_length, values_beside}
+use Rattle.dd_meaning.proofs.WorldLemmas.{stored_length, values_beside}
+use Rattle.dd_plain.proofs.SizesLemmas.{has_size}
 
 -- what holds of all holds of the first and of the others
 pub all_first : (arrays : List ArrayRow) (a : AccessRow) (more : List AccessRow) → All (IsInArray arrays) (a ∷ more) → IsInArray arrays a

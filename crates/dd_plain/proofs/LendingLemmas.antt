@@ -10,7 +10,7 @@ use Rattle.dd_blocks.specs.Conflicts.{writes}
 use Rattle.dd_meaning.specs.Steps.{gathered, put_at, stored, stored_one}
 use Rattle.dd_meaning.specs.Worlds.{World, values_of}
 use Rattle.dd_plain.specs.Lending.{without, without_all, back_in, all_back_in}
-use Rattle.dd_plain.proofs.WorldLemmas.{set_apart, values_beside, same_written}
+use Rattle.dd_meaning.proofs.WorldLemmas.{set_apart, values_beside, same_written}
 
 -- an access that is lent has its array for itself
 pub record AreApart (lent : AccessRow → Bool) (a b : AccessRow) : Type 0 where

@@ -1,6 +1,5 @@
-pub mod FillLemmas
 pub mod PrintingLemmas
-pub mod WorldLemmas
+pub mod SizesLemmas
 pub mod WalkLemmas
 pub mod ReadLemmas
 pub mod LendingLemmas

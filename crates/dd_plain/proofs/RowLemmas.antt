@@ -32,7 +32,7 @@ use Rattle.dd_plain.specs.Sizes.{HasSizes}
 use Rattle.dd_plain.proofs.MovesHomesLemmas.{moved_next}
 use Rattle.dd_plain.proofs.RegionLemmas.{above_other, row_at}
 use Rattle.dd_plain.proofs.TaskLemmas.{holds_values}
-use Rattle.dd_plain.proofs.WorldLemmas.{as_many, has_size}
+use Rattle.dd_plain.proofs.SizesLemmas.{as_many, has_size}
 
 -- what holds anyway holds where a call went well
 pub anyway_on_ok : {T E P : Type 0} (r : Result T E) → P → OnOk r P

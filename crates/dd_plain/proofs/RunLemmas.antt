@@ -12,7 +12,7 @@ use Rattle.dd_meaning.specs.Steps.{put_at}
 use Rattle.dd_plain.specs.Runs.{Wrote, WroteBoth, all_at, all_put}
 use Rattle.dd_plain.proofs.TaskLemmas.{same_map}
 use Rattle.dd_plain.proofs.WalkLemmas.{elements_run}
-use Rattle.dd_plain.proofs.WorldLemmas.{length_put, put_run}
+use Rattle.dd_meaning.proofs.WorldLemmas.{length_put, put_run}
 
 -- what a slice of a run holds, and what a write to it leaves
 pub run_read : (values : List ℤ) (a n : ℕ) → a + n ≤ length values → take (a + n - a) (drop a values) ≡ map (element values) (range_with_len a n)

@@ -31,7 +31,8 @@ use Rattle.dd_plain.proofs.LendingLemmas.{AllComeBack, AreApart, AreAllApart, Ar
 use Rattle.dd_plain.proofs.ReadLemmas.{StayWhereRead, reads_stay}
 use Rattle.dd_plain.proofs.TaskLemmas.{holds_values, lent_apart, long_view}
 use Rattle.dd_plain.proofs.WalkLemmas.{elements_run}
-use Rattle.dd_plain.proofs.WorldLemmas.{as_many, has_size, length_put, put_whole, same_written, stored_sizes, values_written}
+use Rattle.dd_meaning.proofs.WorldLemmas.{length_put, put_whole, same_written, stored_sizes, values_written}
+use Rattle.dd_plain.proofs.SizesLemmas.{as_many, has_size}
 
 -- a vector holds the list that was written over it
 pub items_written : {X : Type 0} (v : Vec X) (values : List X) → length values ≡ length v.items → (with_items v values).items ≡ values

@@ -19,7 +19,7 @@ use Rattle.dd_views.proofs.WalkLemmas.{column_left}
 use Rattle.dd_views.proofs.SignedLemmas.{size_up, times_none}
 use Rattle.dd_meaning.specs.Steps.{put_at}
 use Rattle.dd_plain.specs.Walks.{IsColumnIn}
-use Rattle.dd_plain.proofs.WorldLemmas.{put_append, put_run}
+use Rattle.dd_meaning.proofs.WorldLemmas.{put_append, put_run}
 
 times_more : (i : ℕ) (s : ℤ) → pos (i + 1) *ℤ s ≡ (pos i *ℤ s) +ℤ s
 times_more i (pos n) = omega (arith, ints)

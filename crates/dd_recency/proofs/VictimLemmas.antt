@@ -1,5 +1,5 @@
 -- What a search from one end of the list finds, and what holds of the block that goes first.
-use Rattle.std.proofs.Common.{◌≡◌, ℕ, Bool, true, false, not, cond, nat_eq, List, [], ◌∷◌, reverse, filter, find, All, Contains, Option, Some, None, is_some, IsNone, IfSome, slice_get, refl, sym, ap, ◌∙◌}
+use Rattle.std.proofs.Common.{◌≡◌, ◌↔◌, ℕ, Bool, true, false, not, cond, nat_eq, List, [], ◌∷◌, reverse, filter, find, All, Contains, Option, Some, None, is_some, IsNone, IfSome, slice_get, refl, sym, ap, ◌∙◌}
 use Rattle.std.specs.Cmp.{nat_eq_equiv, unsigned_Decides}
 use Rattle.std.specs.List.{last_or, list_any}
 use Rattle.std.specs.Option.{option_or}
@@ -59,16 +59,14 @@ pub victim-among : (policy : Policy) (is_pinned : ℕ → Bool) (blocks : List �
 victim-among policy is_pinned blocks =
     victim-passes policy is_pinned blocks (Contains blocks) (All-filter (λ b. not (is_pinned b)) (Contains blocks) blocks (All-contains_itself blocks))
 
-is_pinned_by : (pinned : List ℕ) (b : ℕ) → Contains pinned b → is_member nat_eq pinned b ≡ true
-is_pinned_by pinned b = (is_member-Decides unsigned_Decides pinned b).1
+free_of : (b : Bool) → not b ≡ true → b ≡ false
+free_of true free = cc
+free_of false free = refl
 
-free_of : (pinned : List ℕ) (b : ℕ) → not (is_member nat_eq pinned b) ≡ true → ¬ Contains pinned b
-free_of pinned b free c = let t : is_member nat_eq pinned b ≡ true = is_pinned_by pinned b c in let n = rw t at free in cc
-
-pub victim-unpinned : (policy : Policy) (pinned blocks : List ℕ) → IfSome (victim policy (is_member nat_eq pinned) blocks) (λ b. ¬ Contains pinned b)
-victim-unpinned policy pinned blocks =
-    let free = λ (b : ℕ). not (is_member nat_eq pinned b) in
-    victim-passes policy (is_member nat_eq pinned) blocks (λ b. ¬ Contains pinned b) (All-weaker (λ b. free b ≡ true) (λ b. ¬ Contains pinned b) (free_of pinned) (unpinned (is_member nat_eq pinned) blocks) (filter_passes free blocks))
+pub victim-unpinned : (policy : Policy) (is_pinned : ℕ → Bool) (blocks : List ℕ) → IfSome (victim policy is_pinned blocks) (λ b. is_pinned b ≡ false)
+victim-unpinned policy is_pinned blocks =
+    let free = λ (b : ℕ). not (is_pinned b) in
+    victim-passes policy is_pinned blocks (λ b. is_pinned b ≡ false) (All-weaker (λ b. free b ≡ true) (λ b. is_pinned b ≡ false) (λ b. free_of (is_pinned b)) (unpinned is_pinned blocks) (filter_passes free blocks))
 
 -- ---- where there is none
 last_or-some : (x : ℕ) (xs : List ℕ) → is_some (last_or (Some x) xs) ≡ true
@@ -105,31 +103,33 @@ nil_from_pinned is_pinned (b ∷ bs) all =
     let t : is_pinned b ≡ true = All-head (λ b. is_pinned b ≡ true) b bs all in
     rw t (nil_from_pinned is_pinned bs (All-tail (λ b. is_pinned b ≡ true) b bs all))
 
-pub all_pinned : (policy : Policy) (pinned blocks : List ℕ) → IsNone (victim policy (is_member nat_eq pinned) blocks) → All (Contains pinned) blocks
-all_pinned policy pinned blocks none =
-    let test = is_member nat_eq pinned in
-    All-weaker (λ b. test b ≡ true) (Contains pinned) (λ b. (is_member-Decides unsigned_Decides pinned b).0) blocks (pinned_from_nil test blocks (nil_from_none policy test blocks none))
+pub all_pinned : (policy : Policy) (is_pinned : ℕ → Bool) (blocks : List ℕ) → IsNone (victim policy is_pinned blocks) → All (λ b. is_pinned b ≡ true) blocks
+all_pinned policy is_pinned blocks none = pinned_from_nil is_pinned blocks (nil_from_none policy is_pinned blocks none)
 
-pub none_left : (policy : Policy) (pinned blocks : List ℕ) → All (Contains pinned) blocks → IsNone (victim policy (is_member nat_eq pinned) blocks)
-none_left policy pinned blocks all =
-    let test = is_member nat_eq pinned in
-    none_from_nil policy test blocks (nil_from_pinned test blocks (All-weaker (Contains pinned) (λ b. test b ≡ true) (is_pinned_by pinned) blocks all))
+pub none_left : (policy : Policy) (is_pinned : ℕ → Bool) (blocks : List ℕ) → All (λ b. is_pinned b ≡ true) blocks → IsNone (victim policy is_pinned blocks)
+none_left policy is_pinned blocks all = none_from_nil policy is_pinned blocks (nil_from_pinned is_pinned blocks all)
 
--- ---- what the code asks: a slice's `contains` asks the other way round
-abbrev pub is_free : List ℕ → ℕ → Bool
-is_free pinned block = not (list_any (λ pin. nat_eq pin block) pinned)
+-- ---- what is pinned by a list
+is_listed : (pinned : List ℕ) (b : ℕ) → Contains pinned b → is_member nat_eq pinned b ≡ true
+is_listed pinned b = (is_member-Decides unsigned_Decides pinned b).1
 
-member_from_contains : (xs : List ℕ) (b : ℕ) → list_any (λ y. nat_eq y b) xs ≡ is_member nat_eq xs b
+pub none_listed : (pinned blocks : List ℕ) → All (λ b. is_member nat_eq pinned b ≡ true) blocks ↔ All (Contains pinned) blocks
+none_listed pinned blocks = (
+  All-weaker (λ b. is_member nat_eq pinned b ≡ true) (Contains pinned) (λ b. (is_member-Decides unsigned_Decides pinned b).0) blocks,
+  All-weaker (Contains pinned) (λ b. is_member nat_eq pinned b ≡ true) (is_listed pinned) blocks,
+)
+
+not_listed : (pinned : List ℕ) (b : ℕ) → is_member nat_eq pinned b ≡ false → ¬ Contains pinned b
+not_listed pinned b free has = let t : is_member nat_eq pinned b ≡ true = is_listed pinned b has in cc
+
+pub unlisted : (pinned : List ℕ) (o : Option ℕ) → IfSome o (λ b. is_member nat_eq pinned b ≡ false) → IfSome o (λ b. ¬ Contains pinned b)
+unlisted pinned None free = tt
+unlisted pinned (Some b) free = not_listed pinned b free
+
+-- a slice's `contains` asks the other way round
+pub member_from_contains : (xs : List ℕ) (b : ℕ) → list_any (λ y. nat_eq y b) xs ≡ is_member nat_eq xs b
 member_from_contains [] b = refl
 member_from_contains (x ∷ xs) b =
     let turned : nat_eq x b ≡ nat_eq b x = nat_eq_equiv.symm x b in
     let rest : list_any (λ y. nat_eq y b) xs ≡ is_member nat_eq xs b = member_from_contains xs b in
     cc
-
-pub victim_from_back : (pinned blocks : List ℕ) → find (is_free pinned) (reverse blocks) ≡ victim Lru (is_member nat_eq pinned) blocks
-victim_from_back pinned blocks =
-    find_is_last (is_free pinned) blocks ∙ ap (λ test. last_or None (filter test blocks)) (λ i b. not (member_from_contains pinned b i))
-
-pub victim_from_front : (pinned blocks : List ℕ) → find (is_free pinned) blocks ≡ victim Mru (is_member nat_eq pinned) blocks
-victim_from_front pinned blocks =
-    find_is_first (is_free pinned) blocks ∙ ap (λ test. slice_get (filter test blocks) 0) (λ i b. not (member_from_contains pinned b i))

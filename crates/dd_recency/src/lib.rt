@@ -12,12 +12,13 @@
 //! `order.touch(1)` the list is 1, 3, 2, and after `order.take(3)` it is 1, 2.
 //!
 //! An [`Order`] knows numbers alone: neither how large a block is nor how much fits the space. Who keeps it says which
-//! blocks may go, by a list of those that may not. No block is ever pushed out by itself: there is room for as many as
+//! blocks may not go, by a list of them or by a test, [`Pins`]. No block is ever pushed out by itself: there is room for as many as
 //! [`Order::new`] was told, and [`Order::add`] asks that there is room left.
 //!
 //! [`Order::touch`], [`Order::add`], [`Order::take`] and [`Order::has`] look one number up in a hash table, in constant
-//! time where the numbers spread; its hashes have a fixed seed. [`Order::victim`] goes from one end of the list to the
-//! first block that isn't pinned, and through `pinned` for each block on the way: `pinned` is meant to be short. Only
+//! time where the numbers spread; its hashes have a fixed seed. [`Order::victim`] and [`Order::victim_by`] go from one end of the
+//! list to the first block that isn't pinned. `victim` goes through `pinned` for each block on the way, which is meant for a
+//! short list; `victim_by` asks the test once a block. Only
 //! [`Order::new`] and [`Order::add`] take memory, and now and then `add` moves the table to a larger one.
 //!
 //! Inside, an order is the kit's `LruCache` with the blocks as its keys and nothing as its values: a hash table whose
@@ -25,7 +26,9 @@
 #![tactic(auto)]
 
 mod order;
+mod pins;
 mod policy;
 
 pub use order::Order;
+pub use pins::Pins;
 pub use policy::Policy;

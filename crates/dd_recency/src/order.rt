@@ -1,10 +1,11 @@
 //! The order of a space.
-ghost use Rattle.std.specs.Prelude.{◌≡◌, ◌<◌, ◌≤◌, ◌↔◌, false, nat_eq, [], ◌∷◌, length, All, Contains, IfOk, OnOk, OnErr, IsTrue, IsNone, IfSome};
+ghost use Rattle.std.specs.Prelude.{◌≡◌, ◌<◌, ◌≤◌, ◌↔◌, true, false, nat_eq, [], ◌∷◌, length, All, Contains, IfOk, OnOk, OnErr, IsTrue, IsNone, IfSome};
 ghost use Rattle.std.specs.List.{IsDistinct};
 ghost use Rattle.std.specs.Set.{is_member};
 ghost use Rattle.dd_recency.specs.Recency.{to_front, without};
 ghost use Rattle.dd_recency.specs.Victim.{victim};
 
+use crate::pins::{Listed, Pins};
 use crate::policy::Policy;
 use lru::LruCache;
 use std::alloc::{AllocError, Global};
@@ -84,9 +85,20 @@ impl Order {
         ensures among { IfSome result (Contains self.now.blocks) }
         ensures unpinned { IfSome result (λ block. ¬ Contains pinned.now block) }
     {
+        self.victim_by(policy, &Listed { blocks: pinned })
+    }
+
+    /// The block that goes first of those that `pins` doesn't pin, as [`Order::victim`] has it. It takes no memory.
+    pub fn victim_by<P: Pins>(&self, policy: Policy, pins: &P) -> Option<u32>
+        requires { P.is_ready pins.now }
+        ensures value { result ≡ victim policy (P.pinned pins.now) self.now.blocks }
+        ensures none { IsNone result ↔ All (λ block. P.pinned pins.now block ≡ true) self.now.blocks }
+        ensures among { IfSome result (Contains self.now.blocks) }
+        ensures unpinned { IfSome result (λ block. P.pinned pins.now block ≡ false) }
+    {
         match policy {
-            Policy::Lru => self.least_recent(pinned),
-            Policy::Mru => self.most_recent(pinned),
+            Policy::Lru => self.least_recent(pins),
+            Policy::Mru => self.most_recent(pins),
         }
     }
 
@@ -118,23 +130,25 @@ impl Order {
         self.recent.pop(&block).is_some()
     }
 
-    fn least_recent(&self, pinned: &[u32]) -> Option<u32>
-        ensures { result ≡ victim Policy.Lru (is_member nat_eq pinned.now) self.now.blocks }
+    fn least_recent<P: Pins>(&self, pins: &P) -> Option<u32>
+        requires { P.is_ready pins.now }
+        ensures { result ≡ victim Policy.Lru (P.pinned pins.now) self.now.blocks }
     {
         self.recent
             .iter()
             .rev()
             .map(|(block, _)| *block)
-            .find(|block| !pinned.contains(block))
+            .find(|block| !pins.is_pinned(*block))
     }
 
-    fn most_recent(&self, pinned: &[u32]) -> Option<u32>
-        ensures { result ≡ victim Policy.Mru (is_member nat_eq pinned.now) self.now.blocks }
+    fn most_recent<P: Pins>(&self, pins: &P) -> Option<u32>
+        requires { P.is_ready pins.now }
+        ensures { result ≡ victim Policy.Mru (P.pinned pins.now) self.now.blocks }
     {
         self.recent
             .iter()
             .map(|(block, _)| *block)
-            .find(|block| !pinned.contains(block))
+            .find(|block| !pins.is_pinned(*block))
     }
 }
 

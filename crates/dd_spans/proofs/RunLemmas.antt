@@ -128,3 +128,14 @@ pub some_left : (ns : List ℕ) (from first count : ℕ) → IsNextRun ns from f
 some_left ns from first count run all =
     let lt = All-contains (λ n. n < from) ns first all (run.run first (omega arith) (omega (arith, run.some))) in
     omega (arith, lt, run.reached)
+
+-- numbers that follow each other rise, and those that end below 2^64 are below 2^64 - 1
+pub run_rises : (first count : ℕ) → IsStrictlyIncreasing (range_with_len first count)
+run_rises first count k lt =
+    let long = length-range_with_len first count in
+    omega (arith, lt, long, get_or-range_with_len first count k 0 (omega (arith, lt, long)), get_or-range_with_len first count (k + 1) 0 (omega (arith, lt, long)))
+
+pub run_below : (first count : ℕ) → first + count < 2 ^ 64 → All (λ n. n < 2 ^ 64 - 1) (range_with_len first count)
+run_below first count fits k d lt =
+    let long = length-range_with_len first count in
+    omega (arith, fits, lt, long, get_or-range_with_len first count k d (omega (arith, lt, long)))

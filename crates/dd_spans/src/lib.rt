@@ -18,9 +18,9 @@
 //! as the list of its values, and its spare: how many runs more it has memory for. A run that is set can split another
 //! in three, so setting one uses up to two of them, and takes no memory: [`RunMap::reserve`] takes it beforehand.
 //!
-//! Sorting n numbers costs n log n. `meet`, `minus` and `union` go through both lists once. `has` and the start of
-//! `next_run` are binary searches, and the run is counted number by number. `set_run` writes each place of the run, and
-//! `same_until` reads each.
+//! Sorting n numbers costs n log n, and writing down those of a run n. `meet`, `minus` and `union` go through both lists
+//! once. `has` and the start of `next_run` are binary searches, and the run is counted number by number. `set_run` writes each
+//! place of the run, and `same_until` reads each.
 //!
 //! Inside, [`Runs`] keeps a vector of its numbers, and [`RunMap`] a vector with one value a place, and its spare as a count,
 //! so that `reserve` takes nothing. `sets` makes and merges sorted lists, `cut` has where one is cut at a number, and `run`

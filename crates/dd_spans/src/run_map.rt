@@ -36,6 +36,19 @@ impl RunMap {
         })
     }
 
+    /// The same values, and the same spare, in memory of their own.
+    ///
+    /// # Errors
+    /// Want of memory.
+    pub fn duplicate(&self) -> Result<RunMap, AllocError>
+        ensures { IfOk result (λ map. map ≡ self.now) }
+    {
+        Ok(RunMap {
+            values: self.values.clone()?,
+            spare: self.spare,
+        })
+    }
+
     /// How many places there are.
     pub fn len(&self) -> u64
         ensures { result ≡ length self.now.list }

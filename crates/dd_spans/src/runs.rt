@@ -8,7 +8,7 @@ ghost use Rattle.dd_spans.specs.Kept.{is_kept};
 
 use crate::cut::search_from;
 use crate::run::run_len;
-use crate::sets::{joined, kept, rising};
+use crate::sets::{following, joined, kept, rising};
 use std::alloc::{AllocError, Global};
 use std::marker::Model;
 
@@ -39,6 +39,15 @@ impl Runs {
         ensures same { IfOk result (λ runs. (n : ℕ) → Contains runs.list n ↔ Contains list.now n) }
     {
         let numbers = rising(alloc, list)?;
+        Ok(Runs { numbers })
+    }
+
+    /// So many numbers that follow each other, from `first` on.
+    pub fn of_run(alloc: Global, first: u64, count: u64) -> Result<Runs, AllocError>
+        requires { first + count < 2 ^ 64 }
+        ensures { IfOk result (λ runs. runs.list ≡ range_with_len first count) }
+    {
+        let numbers = following(alloc, first, count)?;
         Ok(Runs { numbers })
     }
 

@@ -1,6 +1,6 @@
 //! Sets of numbers, as sorted lists.
-ghost use Rattle.std.specs.Prelude.{◌≡◌, ◌-◌, ◌^◌, ◌<◌, ◌++◌, IfOk};
-ghost use Rattle.std.specs.List.{All, filter};
+ghost use Rattle.std.specs.Prelude.{◌≡◌, ◌+◌, ◌-◌, ◌^◌, ◌<◌, ◌++◌, IfOk};
+ghost use Rattle.std.specs.List.{All, filter, range_with_len};
 ghost use Rattle.std.specs.List.Sorted.{IsStrictlyIncreasing};
 ghost use Rattle.dd_spans.specs.Numbers.{rising_numbers};
 ghost use Rattle.dd_spans.specs.Kept.{is_kept};
@@ -17,6 +17,14 @@ pub(crate) fn rising(alloc: Global, list: &[u64]) -> Result<Vec<u64>, AllocError
     numbers.sort_unstable();
     numbers.dedup();
     Ok(numbers)
+}
+
+/// So many numbers that follow each other, from `first` on.
+pub(crate) fn following(alloc: Global, first: u64, count: u64) -> Result<Vec<u64>, AllocError>
+    requires { first + count < 2 ^ 64 }
+    ensures { IfOk result (λ numbers. numbers.items ≡ range_with_len first count) }
+{
+    (first..first + count).collect(alloc)
 }
 
 /// Of sorted numbers those that others share, or those that they don't.

@@ -4,7 +4,7 @@ use Rattle.dd_plain.specs.Lending.{held, is_lent, without_all}
 use Rattle.dd_plain.specs.Lists.{lists_of}
 use Rattle.dd_plain.proofs.AccessLemmas.{taken, takes, taking_in_array, taking_size}
 use Rattle.dd_plain.proofs.TaskLemmas.{lent_apart}
-use Rattle.dd_plain.proofs.WorldLemmas.{as_many}
+use Rattle.dd_plain.proofs.SizesLemmas.{as_many}
 use Rattle.dd_plain.proofs.task.take_all.Goals as goal
 
 pub loop-access-init : goal.loop-access-init

@@ -1,5 +1,5 @@
 use Rattle.std.proofs.Common.{rules}
-use Rattle.dd_plain.proofs.FillLemmas.{alike}
+use Rattle.dd_meaning.proofs.FillLemmas.{alike}
 use Rattle.dd_plain.proofs.world.alike.Goals as goal
 
 pub returns : goal.returns

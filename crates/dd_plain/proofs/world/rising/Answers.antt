@@ -1,6 +1,6 @@
 use Rattle.std.proofs.Common.{◌+◌, pos, ◌∙◌, arith}
 use Rattle.std.proofs.lemmas.Int.{ints}
-use Rattle.dd_plain.proofs.FillLemmas.{one_more}
+use Rattle.dd_meaning.proofs.FillLemmas.{one_more}
 use Rattle.dd_plain.proofs.world.rising.Goals as goal
 
 pub loop-p-preserved : goal.loop-p-preserved

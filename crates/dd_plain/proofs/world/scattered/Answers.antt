@@ -3,7 +3,7 @@ use Rattle.std.specs.Int.{w64}
 use Rattle.std.specs.Int.RustNames.{FitsSigned}
 use Rattle.std.proofs.lemmas.Int.{to_z-of_z}
 use Rattle.dd_meaning.specs.Worlds.{lcg}
-use Rattle.dd_plain.proofs.FillLemmas.{one_more}
+use Rattle.dd_meaning.proofs.FillLemmas.{one_more}
 use Rattle.dd_plain.proofs.world.scattered.Goals as goal
 
 pub loop-p-preserved : goal.loop-p-preserved

@@ -2,7 +2,7 @@ use Rattle.std.proofs.Common.{ℕ, ◌+◌, ◌*◌, ◌^◌, ◌%◌, ◌/◌, 
 use Rattle.std.specs.Int.{w64, cast_unsigned}
 use Rattle.std.proofs.lemmas.Int.{to_z-of_z, to_z_pos}
 use Rattle.std.proofs.lemmas.Nat.{mod_below}
-use Rattle.dd_plain.proofs.FillLemmas.{lcg_bits}
+use Rattle.dd_meaning.proofs.FillLemmas.{lcg_bits}
 use Rattle.dd_plain.proofs.world.scattered_at.Goals as goal
 
 pub returns : goal.returns

@@ -1,16 +1,16 @@
-use Rattle.std.proofs.Common.{ℕ, find, rules, tests, sym, ap, ◌∙◌}
+use Rattle.std.proofs.Common.{ℕ, not, find, rules, tests, sym, ap, ◌∙◌}
 use Rattle.std.proofs.lemmas.Iterator.{YieldsList-from_map}
 use Rattle.std.proofs.lemmas.Iterator.Adapters.{option_map_id}
 use Rattle.std.proofs.lemmas.Iterator.Consumers.{YieldsList-at, YieldsList-from_rest}
 use Rattle.std.proofs.lemmas.Iterator.Search.{find_from_yields_List}
-use Rattle.dd_recency.proofs.VictimLemmas.{is_free, victim_from_front}
+use Rattle.dd_recency.proofs.VictimLemmas.{find_is_first}
 use Rattle.dd_recency.proofs.order.Order.most_recent.Goals as goal
 
 pub returns : goal.returns
-returns c =
-    let free = is_free c.args.pinned.now in
+returns g c =
+    let free = λ (b : ℕ). not (g.P.Pins.pinned c.args.pins.now b) in
     let entries = YieldsList-from_rest c.self.inside.recent.entries c.iter.ensures.rest in
     let found = find_from_yields_List free c.find.new.self _ c.find.result c.find.ensures.ran (YieldsList-from_map _ (λ (e : ℕ × Unit {0}). e.0) (YieldsList-at c.map.ensures.source entries) c.map.ensures.closure (λ x r q k. search (rules, tests))) (λ x b q k. search (rules, tests)) in
     sym (option_map_id c.find.result) ∙ found
     ∙ ap (λ order. find free order.blocks) c.self.view_is
-    ∙ victim_from_front c.args.pinned.now c.args.self.now.blocks
+    ∙ find_is_first free c.args.self.now.blocks

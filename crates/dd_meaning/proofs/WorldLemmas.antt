@@ -1,18 +1,15 @@
 -- Arrays of a world, by their numbers.
 use Rattle.std.proofs.Common.{◌≡◌, ◌≢◌, ℕ, zero, suc, ◌+◌, ◌-◌, ◌≤◌, ℤ, true, false, take, drop, List, [], ◌∷◌, ◌++◌, length, map, set, get_or, refl, sym, ap, ◌∙◌, arith, ⊎_elim}
 use Rattle.std.specs.List.{range_with_len}
-use Rattle.std.proofs.lemmas.List.{length-map, length-set, get_or-set_same, get_or-set_other, set-get_or, append_assoc, append-nil, take-append-drop, take_more_set, drop-set-lt, drop_all}
+use Rattle.std.proofs.lemmas.List.{length-set, get_or-set_same, get_or-set_other, set-get_or, append_assoc, append-nil, take-append-drop, take_more_set, drop-set-lt, drop_all}
 use Rattle.std.proofs.lemmas.Bool.{cases_Bool}
-use Rattle.dd_blocks.specs.declared.array_row.ArrayRow.{ArrayRow}
-use Rattle.dd_blocks.specs.Grids.{element_count}
-use Rattle.dd_blocks.specs.Numbered.{numbered, no_array}
+use Rattle.dd_blocks.specs.Numbered.{numbered}
 use Rattle.dd_blocks.specs.declared.access_row.AccessRow.{AccessRow}
 use Rattle.dd_blocks.specs.Conflicts.{writes}
 use Rattle.dd_kernels.proofs.ListsLemmas.{ap2}
 use Rattle.dd_views.specs.IndexList.{index_list}
 use Rattle.dd_meaning.specs.Steps.{put_at, stored_one}
 use Rattle.dd_meaning.specs.Worlds.{World, values_of}
-use Rattle.dd_plain.specs.Sizes.{HasSizes, sizes_in}
 
 -- two places that are not the same are written in any order
 pub set_apart : {A : Type 0} (xs : List A) (i j : ℕ) (x y : A) → i ≢ j → set (set xs i x) j y ≡ set (set xs j y) i x
@@ -49,24 +46,9 @@ length_at [] i = refl
 length_at (x ∷ world) zero = refl
 length_at (x ∷ world) (suc i) = length_at world i
 
-size_at : (arrays : List ArrayRow) (i : ℕ) → element_count (get_or arrays i no_array).grid ≡ get_or (sizes_in arrays) i 0
-size_at [] i = refl
-size_at (x ∷ arrays) zero = refl
-size_at (x ∷ arrays) (suc i) = size_at arrays i
-
-size_numbered : (arrays : List ArrayRow) (n : ℕ) → element_count (numbered no_array arrays n).grid ≡ numbered 0 (sizes_in arrays) n
-size_numbered arrays zero = refl
-size_numbered arrays (suc n) = size_at arrays n
-
 pub length_numbered : (world : World) (n : ℕ) → length (numbered [] world n) ≡ numbered 0 (map length world) n
 length_numbered world zero = refl
 length_numbered world (suc n) = length_at world n
-
-pub has_size : (arrays : List ArrayRow) (world : World) (n : ℕ) → HasSizes arrays world → length (values_of world n) ≡ element_count (numbered no_array arrays n).grid
-has_size arrays world n sizes = length_numbered world n ∙ ap (λ (l : List ℕ). numbered 0 l n) sizes ∙ sym (size_numbered arrays n)
-
-pub as_many : (arrays : List ArrayRow) (world : World) → HasSizes arrays world → length world ≡ length arrays
-as_many arrays world sizes = sym (length-map world length) ∙ ap length sizes ∙ length-map arrays (λ (a : ArrayRow). element_count a.grid)
 
 pub put_run : (values array : List ℤ) (a : ℕ) → a + length values ≤ length array → put_at (range_with_len a (length values)) values array ≡ take a array ++ values ++ drop (a + length values) array
 put_run [] array a within = let none : a + 0 ≡ a = omega arith in rw none (sym (take-append-drop a array) ∙ ap (λ l. l ++ drop a array) (sym (append-nil (take a array))))
