@@ -15,7 +15,7 @@ use Rattle.dd_machine.specs.Sound.{IsSound}
 use Rattle.dd_machine.specs.SoundLimits.{IsOpen}
 use Rattle.dd_machine.specs.States.{Copy, State, at_copy}
 use Rattle.dd_machine.specs.Tests.{Has, is_any, is_here, is_in_state, is_leaving, is_out, is_running, versions_of}
-use Rattle.dd_meaning.specs.Versions.{Element}
+use Rattle.dd_blocks.specs.Elements.{Element}
 use Rattle.std.specs.List.{list_all, range_with_len}
 use Rattle.std.specs.Prelude.{is_some, not, slice_index}
 use Rattle.dd_machine.specs.Words.{IsOf, element, place, reads, size, writes}

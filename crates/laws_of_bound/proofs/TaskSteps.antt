@@ -1,7 +1,7 @@
 -- The entries that lead a task on: Hold, Claim and Finish.
 use Rattle.std.proofs.Common.{◌≡◌, ◌≢◌, ◌⊎◌, ℕ, ◌+◌, ◌-◌, ◌<◌, ◌≤◌, Bool, true, false, cond, ◌&&◌, ◌||◌, eqb, [], get_or, Option, Some, None, refl, ap, sym, ◌∙◌, subst, ⊎_elim, arith}
 use Rattle.std.specs.Prelude.{not, slice_index}
-use Rattle.dd_meaning.specs.Versions.{Element}
+use Rattle.dd_blocks.specs.Elements.{Element}
 use Rattle.std.proofs.lemmas.Bool.{cases_Bool, cases_order, or_cases, or_left, or_right}
 use Rattle.std.proofs.lemmas.List.Elements.{All-get_or}
 use Rattle.dd_blocks.specs.declared.plan.Plan.{Plan}

@@ -25,7 +25,7 @@ use Rattle.dd_blocks.specs.declared.task_row.TaskRow.{TaskRow}
 use Rattle.dd_blocks.specs.declared.what.What.{What}
 use Rattle.dd_blocks.specs.declared.what.What.TheVariants.{Put as Array, Print, Sum, Moved, Same, Drop, MoveTo, Region}
 use Rattle.dd_blocks.specs.Charges.{Touches, block_with}
-use Rattle.dd_blocks.specs.Conflicts.{writes as writes_mode}
+use Rattle.dd_blocks.specs.Elements.{writes as writes_mode}
 use Rattle.dd_blocks.specs.Grids.{block_count, block_of, element_count}
 use Rattle.dd_blocks.specs.Layout.{IsLaidOut}
 use Rattle.dd_blocks.specs.Lives.{IsLive, array_put, arrays_put, arrays_used, tasks_of}
@@ -33,7 +33,7 @@ use Rattle.dd_blocks.specs.Numbered.{IsNumberIn, array_row, block_row, no_task, 
 use Rattle.dd_blocks.specs.Tasks.{IsShown, shape_in}
 use Rattle.dd_blocks.specs.WellFormed.{IsWellFormed, StatementNamesRows, TaskNamesRows}
 use Rattle.dd_blocks.proofs.GridLemmas.{block_within}
-use Rattle.dd_meaning.specs.Versions.{has}
+use Rattle.dd_blocks.specs.Elements.{has}
 use Rattle.dd_machine.specs.declared.entry.Entry.{Entry}
 use Rattle.dd_machine.specs.declared.event.Event.TheVariants.{Put, Begin, Close}
 use Rattle.dd_machine.specs.Made.{is_live, was_begun, was_closed}

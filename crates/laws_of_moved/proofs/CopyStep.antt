@@ -12,7 +12,8 @@ use Rattle.laws_of_lives.proofs.LayoutLemmas.{numbered-get}
 use Rattle.dd_blocks.specs.Numbered.{no_task, task_row}
 use Rattle.dd_blocks.specs.WellFormed.{IsWellFormed, TaskNamesRows}
 use Rattle.dd_meaning.specs.Moves.{home_of, is_kept_in, is_read_in, moves_to, place_of, source_of}
-use Rattle.dd_meaning.specs.Versions.{Element, last_version, needed_version, task_reads, tasks_in}
+use Rattle.dd_meaning.specs.Versions.{last_version, needed_version, tasks_in}
+use Rattle.dd_blocks.specs.Elements.{Element, task_reads}
 use Rattle.dd_machine.specs.declared.task_state.TaskState.TheVariants.{Held, Done}
 use Rattle.dd_machine.specs.Bytes.{when}
 use Rattle.dd_machine.specs.Delivered.{all_done, delivered, delivered_of, has_version, is_delivered}

@@ -6,7 +6,8 @@ use Rattle.dd_blocks.specs.declared.plan.Plan.{Plan}
 use Rattle.dd_blocks.specs.Numbered.{task_row}
 use Rattle.dd_blocks.specs.WellFormed.{IsWellFormed}
 use Rattle.dd_meaning.specs.Moves.{home_of, is_kept_in, is_read_in, moves_to, place_of, source_of, versions_in}
-use Rattle.dd_meaning.specs.Versions.{Element, last_version, needed_version, task_reads, tasks_in}
+use Rattle.dd_meaning.specs.Versions.{last_version, needed_version, tasks_in}
+use Rattle.dd_blocks.specs.Elements.{Element, task_reads}
 use Rattle.dd_machine.specs.declared.task_state.TaskState.TheVariants.{Held, Done}
 use Rattle.dd_machine.specs.Delivered.{all_done, delivered, has_version, is_delivered}
 use Rattle.dd_machine.specs.Needed.{version}
@@ -24,7 +25,8 @@ use Rattle.dd_machine.specs.declared.event.Event.TheVariants as event
 use Rattle.dd_machine.specs.Effects.{after}
 use Rattle.dd_machine.specs.States.{at_one}
 use Rattle.dd_machine.proofs.ChangesLemmas.{at_one_other, at_one_tells}
-use Rattle.dd_meaning.specs.Versions.{opening_version, tasks_through, task_writes}
+use Rattle.dd_meaning.specs.Versions.{opening_version, tasks_through}
+use Rattle.dd_blocks.specs.Elements.{task_writes}
 use Rattle.dd_machine.specs.Words.{writes}
 use Rattle.dd_machine.specs.Tests.{is_waiting}
 use Rattle.dd_views.proofs.ListsLemmas.{in_filter}

@@ -7,7 +7,8 @@ use Rattle.dd_blocks.specs.declared.plan.Plan.{Plan}
 use Rattle.dd_blocks.specs.Numbered.{task_row}
 use Rattle.dd_blocks.specs.WellFormed.{IsWellFormed}
 use Rattle.dd_meaning.specs.Moves.{home_of, is_kept_in, is_read_in, moves_to, place_of, source_of, versions_in}
-use Rattle.dd_meaning.specs.Versions.{Element, last_version, needed_version, tasks_in}
+use Rattle.dd_meaning.specs.Versions.{last_version, needed_version, tasks_in}
+use Rattle.dd_blocks.specs.Elements.{Element}
 use Rattle.dd_machine.specs.Bytes.{when}
 use Rattle.dd_machine.specs.Words.{IsOf, blocks, element, place, reads, size, spaces, tasks, total}
 use Rattle.laws_of_moved.proofs.BelowLemmas.{below}
@@ -16,7 +17,8 @@ use Rattle.laws_of_lives.proofs.ElementsLemmas.{placed}
 use Rattle.dd_machine.specs.States.{at_one}
 use Rattle.dd_machine.proofs.ChangesLemmas.{at_one_tells}
 use Rattle.dd_meaning.specs.Moves.{moves_of, moved}
-use Rattle.dd_meaning.specs.Versions.{opening_version, tasks_through, task_writes}
+use Rattle.dd_meaning.specs.Versions.{opening_version, tasks_through}
+use Rattle.dd_blocks.specs.Elements.{task_writes}
 use Rattle.dd_machine.specs.Words.{is_of, writes}
 use Rattle.dd_views.proofs.ListsLemmas.{in_filter, in_range}
 use Rattle.laws_of_versions.proofs.ClosedLemmas.{last_writer_le}

@@ -9,7 +9,8 @@ use Rattle.laws_of_lives.proofs.LayoutLemmas.{numbered-get}
 use Rattle.dd_blocks.specs.Numbered.{no_task, task_row}
 use Rattle.dd_blocks.specs.WellFormed.{IsWellFormed, TaskNamesRows}
 use Rattle.dd_meaning.specs.Moves.{home_of, is_kept_in, is_read_in, moves_to, place_of, source_of, versions_in}
-use Rattle.dd_meaning.specs.Versions.{Element, last_version, tasks_in}
+use Rattle.dd_meaning.specs.Versions.{last_version, tasks_in}
+use Rattle.dd_blocks.specs.Elements.{Element}
 use Rattle.dd_machine.specs.declared.task_state.TaskState.TheVariants.{Held, Done}
 use Rattle.dd_machine.specs.Bytes.{when}
 use Rattle.dd_machine.specs.Delivered.{all_done, delivered, delivered_of, has_version, is_delivered}
@@ -33,7 +34,8 @@ use Rattle.dd_machine.specs.declared.event.Event.TheVariants as event
 use Rattle.dd_machine.specs.Effects.{after}
 use Rattle.dd_machine.proofs.TotalsLemmas.{total_same}
 use Rattle.dd_meaning.specs.Moves.{moved}
-use Rattle.dd_meaning.specs.Versions.{opening_version, tasks_through, task_writes}
+use Rattle.dd_meaning.specs.Versions.{opening_version, tasks_through}
+use Rattle.dd_blocks.specs.Elements.{task_writes}
 use Rattle.dd_machine.specs.Words.{is_of}
 use Rattle.dd_machine.specs.Tests.{is_waiting}
 use Rattle.dd_views.proofs.ListsLemmas.{in_filter}

@@ -7,7 +7,8 @@ use Rattle.dd_blocks.specs.declared.plan.Plan.{Plan}
 use Rattle.dd_blocks.specs.Numbered.{task_row}
 use Rattle.dd_blocks.specs.WellFormed.{IsWellFormed}
 use Rattle.dd_meaning.specs.Moves.{home_of, is_kept_in, is_read_in, moves_to, place_of, source_of, versions_in}
-use Rattle.dd_meaning.specs.Versions.{Element, tasks_in}
+use Rattle.dd_meaning.specs.Versions.{tasks_in}
+use Rattle.dd_blocks.specs.Elements.{Element}
 use Rattle.dd_machine.specs.declared.task_state.TaskState.TheVariants.{Done}
 use Rattle.dd_machine.specs.Delivered.{all_done, delivered, delivered_of, has_version, is_delivered}
 use Rattle.dd_machine.specs.Legal.{AllDone}
@@ -38,7 +39,8 @@ use Rattle.dd_machine.proofs.ChangesLemmas.{at_copy_tells, at_one_same}
 use Rattle.dd_machine.proofs.TestsLemmas.{any_in_state, current_version, same_at, versions_in_state}
 use Rattle.dd_machine.proofs.TotalsLemmas.{total_same}
 use Rattle.dd_meaning.specs.Moves.{moves_of, moved}
-use Rattle.dd_meaning.specs.Versions.{opening_version, tasks_through, task_writes}
+use Rattle.dd_meaning.specs.Versions.{opening_version, tasks_through}
+use Rattle.dd_blocks.specs.Elements.{task_writes}
 use Rattle.dd_machine.specs.Words.{is_of, writes}
 use Rattle.dd_views.proofs.ListsLemmas.{in_filter}
 use Rattle.laws_of_versions.proofs.ClosedLemmas.{last_writer_le}

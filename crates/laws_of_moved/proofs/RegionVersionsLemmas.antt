@@ -11,7 +11,8 @@ use Rattle.dd_blocks.specs.Homes.{home_in_region}
 use Rattle.dd_blocks.specs.Numbered.{no_task, task_row}
 use Rattle.dd_blocks.specs.WellFormed.{IsWellFormed, TaskNamesRows}
 use Rattle.dd_meaning.specs.Moves.{home_of, place_of, source_of, versions_in}
-use Rattle.dd_meaning.specs.Versions.{Element, opening_version, task_writes, tasks_in, tasks_through}
+use Rattle.dd_meaning.specs.Versions.{opening_version, tasks_in, tasks_through}
+use Rattle.dd_blocks.specs.Elements.{Element, task_writes}
 use Rattle.dd_machine.specs.Delivered.{all_done}
 use Rattle.dd_machine.specs.Needed.{source, source_in}
 use Rattle.dd_machine.specs.Orderly.{IsOrderly}

@@ -7,7 +7,7 @@ use Rattle.std.proofs.lemmas.List.Folds.{list_any_at}
 use Rattle.std.proofs.lemmas.List.FromFn.{get_or-range_with_len, length-range_with_len}
 use Rattle.dd_blocks.specs.declared.plan.Plan.{Plan}
 use Rattle.dd_blocks.specs.WellFormed.{IsWellFormed}
-use Rattle.dd_meaning.specs.Versions.{Element}
+use Rattle.dd_blocks.specs.Elements.{Element}
 use Rattle.dd_machine.specs.declared.copy_state.CopyState.{CopyState}
 use Rattle.dd_machine.specs.declared.copy_state.CopyState.TheVariants as state
 use Rattle.dd_machine.specs.declared.event.Event.{Event}

@@ -7,7 +7,7 @@ use Rattle.dd_views.proofs.ListsLemmas.{has_head, has_tail}
 use Rattle.dd_blocks.specs.declared.plan.Plan.{Plan}
 use Rattle.dd_blocks.specs.Numbered.{block_row, task_row}
 use Rattle.dd_blocks.specs.WellFormed.{IsWellFormed}
-use Rattle.dd_meaning.specs.Versions.{Element}
+use Rattle.dd_blocks.specs.Elements.{Element}
 use Rattle.dd_machine.specs.declared.copy_state.CopyState.{CopyState}
 use Rattle.dd_machine.specs.declared.copy_state.CopyState.TheVariants as state
 use Rattle.dd_machine.specs.declared.event.Event.{Event}

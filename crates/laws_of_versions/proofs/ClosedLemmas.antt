@@ -3,7 +3,8 @@ use Rattle.std.proofs.Common.{◌≡◌, ◌≢◌, ℕ, zero, suc, ◌-◌, ◌
 use Rattle.std.proofs.lemmas.Bool.{cases_eq, cases_lt}
 use Rattle.dd_blocks.specs.Conflicts.{AreInConflict}
 use Rattle.dd_blocks.specs.WellFormed.{IsWellFormed}
-use Rattle.dd_meaning.specs.Versions.{Element, last_version, last_writer, needed_version, task_writes, tasks_through}
+use Rattle.dd_meaning.specs.Versions.{last_version, last_writer, needed_version, tasks_through}
+use Rattle.dd_blocks.specs.Elements.{Element, task_writes}
 use Rattle.dd_machine.specs.Legal.{AllDone}
 use Rattle.dd_machine.specs.Orderly.{IsOrderly}
 use Rattle.dd_blocks.specs.declared.plan.Plan.{Plan}

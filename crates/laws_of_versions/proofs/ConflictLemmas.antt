@@ -7,10 +7,11 @@ use Rattle.std.proofs.lemmas.List.Folds.{Any-from_list_any, list_any_at}
 use Rattle.dd_views.specs.IndexList.{index_list}
 use Rattle.dd_blocks.specs.declared.access_row.AccessRow.{AccessRow}
 use Rattle.dd_blocks.specs.declared.plan.Plan.{Plan}
-use Rattle.dd_blocks.specs.Conflicts.{AreInConflict, HasElement, UsesElement, WritesElement, reads as reads_mode, writes as writes_mode}
+use Rattle.dd_blocks.specs.Conflicts.{AreInConflict}
+use Rattle.dd_blocks.specs.Elements.{HasElement, UsesElement, WritesElement, reads as reads_mode, writes as writes_mode}
 use Rattle.dd_blocks.specs.Numbered.{task_row}
 use Rattle.dd_blocks.specs.WellFormed.{IsWellFormed}
-use Rattle.dd_meaning.specs.Versions.{Element, has}
+use Rattle.dd_blocks.specs.Elements.{Element, has}
 use Rattle.dd_machine.specs.declared.task_state.TaskState.TheVariants.{Done}
 use Rattle.dd_machine.specs.Orderly.{IsOrderly}
 use Rattle.dd_machine.specs.Sound.{IsSound}

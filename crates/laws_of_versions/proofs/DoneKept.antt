@@ -1,7 +1,7 @@
 -- The dependencies of tasks at work are done, and the current version is that of the last writer that is done.
 use Rattle.std.proofs.Common.{◌≡◌, ◌≢◌, ℕ, ◌≤◌, Bool, true, false, cond, refl, ap, sym, ◌∙◌, subst, ⊎_elim, arith}
 use Rattle.dd_blocks.specs.WellFormed.{IsWellFormed}
-use Rattle.dd_meaning.specs.Versions.{Element}
+use Rattle.dd_blocks.specs.Elements.{Element}
 use Rattle.dd_machine.specs.Orderly.{IsOrderly}
 use Rattle.dd_blocks.specs.declared.plan.Plan.{Plan}
 use Rattle.dd_blocks.specs.Numbered.{task_row}

@@ -3,7 +3,7 @@ use Rattle.std.proofs.Common.{◌≡◌, ◌≢◌, ℕ, ◌<◌, ◌≤◌, Boo
 use Rattle.std.specs.Prelude.{slice_index}
 use Rattle.std.proofs.lemmas.Bool.{cases_eq}
 use Rattle.dd_blocks.specs.WellFormed.{IsWellFormed}
-use Rattle.dd_meaning.specs.Versions.{Element}
+use Rattle.dd_blocks.specs.Elements.{Element}
 use Rattle.dd_machine.specs.Effects.{after_copy, finish_copy}
 use Rattle.dd_machine.specs.Needed.{is_needed, own_space, source, version}
 use Rattle.dd_machine.specs.Orderly.{IsOrderly}
