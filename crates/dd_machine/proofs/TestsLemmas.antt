@@ -14,7 +14,7 @@ use Rattle.dd_machine.specs.Needed.{is_current, is_current_at, is_needed, is_rea
 use Rattle.dd_machine.specs.Sound.{IsSound}
 use Rattle.dd_machine.specs.SoundLimits.{IsOpen}
 use Rattle.dd_machine.specs.States.{Copy, State, at_copy}
-use Rattle.dd_machine.specs.Tests.{Has, is_any, is_here, is_in_state, is_leaving, is_out, is_running, versions_of}
+use Rattle.dd_machine.specs.Tests.{Has, is_any, is_done, is_here, is_in_state, is_leaving, is_out, is_running, versions_of}
 use Rattle.dd_blocks.specs.Elements.{Element}
 use Rattle.std.specs.List.{list_all, range_with_len}
 use Rattle.std.specs.Prelude.{is_some, not, slice_index}
@@ -189,6 +189,13 @@ pub current_version : (plan : Plan) (st : State) (s b i : ℕ) → is_current pl
 current_version plan st s b i all lt =
     let e : 0 + i ≡ i = omega arith in
     eqb-true (version st s b i) (st.current (element plan b i)) (ap (is_current_at plan st s b) (sym e) ∙ all_at (is_current_at plan st s b) 0 (size plan b) i all lt)
+
+-- a task that passes is done
+pub done_is : (s : TaskState) → is_done s ≡ true → s ≡ Done
+done_is Waiting h = absurd cc
+done_is Held h = absurd cc
+done_is (Running w) h = absurd cc
+done_is Done h = refl
 
 -- what a task reads of a copy is current, place by place
 pub read_version : (plan : Plan) (st : State) (task b i : ℕ) → reads_current plan st task b ≡ true → i < size plan b → reads plan task (element plan b i) ≡ true → version st (place plan task) b i ≡ st.current (element plan b i)

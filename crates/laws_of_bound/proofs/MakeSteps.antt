@@ -20,18 +20,18 @@ use Rattle.dd_machine.proofs.ChangesLemmas.{at_copy_other, at_copy_same, at_copy
 use Rattle.dd_machine.proofs.TestsLemmas.{same_at}
 use Rattle.dd_machine.proofs.TotalsLemmas.{when_at_most}
 use Rattle.laws_of_limits.proofs.PinsKept.{same_some}
-use Rattle.laws_of_lives.proofs.LayoutLemmas.{numbered-get}
 use Rattle.laws_of_bound.specs.Cost.{any_undone, bring_cost, copy_cost, fetch_at, is_short, is_stale, region_cost, send_cost}
 use Rattle.laws_of_bound.proofs.CopiesLemmas.{copies_fall, copies_rise}
 use Rattle.laws_of_bound.proofs.FetchLemmas.{fetch_le, needed_same, send_le, short_absent}
 use Rattle.laws_of_bound.proofs.RestLemmas.{IsKept, Wants, rest_le, rest_less, undone_at}
 use Rattle.laws_of_bound.proofs.WantsLemmas.{own_task, short_same, stale_same}
-use Rattle.dd_machine.proofs.RangesLemmas.{number_in}
+use Rattle.dd_blocks.proofs.NumberedLemmas.{task_names_rows}
+use Rattle.dd_lists.proofs.ListsLemmas.{number_in}
 
 -- a touched block is one of the Plan
 pub touched_in : (plan : Plan) (r t b : ℕ) → IsWellFormed plan → IsOf plan r t → touches plan t b ≡ true → IsOneOf (blocks plan) b
 touched_in plan r t b well of touched =
-    let names : TaskNamesRows plan (task_row plan t) = subst (TaskNamesRows plan) (sym (numbered-get no_task plan.tasks t of.0.0)) (All-get_or (TaskNamesRows plan) plan.tasks (t - 1) no_task (omega (arith, of.0.0, of.0.1)) well.names.tasks) in
+    let names = task_names_rows plan well t of.0 in
     All-contains (IsNumberIn plan.blocks) (task_row plan t).blocks b names.blocks (number_in (task_row plan t).blocks b touched)
 
 pub falls_make : (plan : Plan) (st : State) (r task block : ℕ) → IsWellFormed plan → IsSound plan st → st.region ≡ Some r → MayMake plan st task block

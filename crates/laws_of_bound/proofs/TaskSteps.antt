@@ -25,7 +25,6 @@ use Rattle.dd_machine.proofs.ChangesLemmas.{at_one_other, at_one_same, at_one_te
 use Rattle.dd_machine.proofs.TestsLemmas.{any_finished, hold_open, state_finished}
 use Rattle.dd_machine.proofs.TotalsLemmas.{total_le}
 use Rattle.laws_of_limits.proofs.PinsKept.{pin_done, same_some}
-use Rattle.laws_of_lives.proofs.LayoutLemmas.{numbered-get}
 use Rattle.laws_of_versions.proofs.ConflictLemmas.{not_later, read_write, reads_needed, write_read}
 use Rattle.laws_of_versions.proofs.WhereLemmas.{finished_version}
 use Rattle.laws_of_bound.specs.Cost.{any_undone, block_cost, blocks_cost, bring_cost, copy_cost, fetch_at, fetch_cost, is_stale, most_fetch, region_cost, send_cost, task_cost, tasks_cost}
@@ -34,11 +33,12 @@ use Rattle.laws_of_bound.proofs.FetchLemmas.{fetch_le, fetch_most, send_le}
 use Rattle.laws_of_bound.proofs.RestLemmas.{block_le, task_le, tasks_less, undone_at, undone_before}
 use Rattle.laws_of_bound.proofs.SumsLemmas.{when_mono}
 use Rattle.laws_of_bound.proofs.WantsLemmas.{own_task, pin_tells, short_same}
+use Rattle.dd_blocks.proofs.NumberedLemmas.{numbered-get, task_names_rows}
 
 -- a task's space is one of the Plan
 pub place_in : (plan : Plan) (r t : ℕ) → IsWellFormed plan → IsOf plan r t → IsOneOf (spaces plan) (place plan t)
 place_in plan r t well of =
-    let names : TaskNamesRows plan (task_row plan t) = subst (TaskNamesRows plan) (sym (numbered-get no_task plan.tasks t of.0.0)) (All-get_or (TaskNamesRows plan) plan.tasks (t - 1) no_task (omega (arith, of.0.0, of.0.1)) well.names.tasks) in
+    let names = task_names_rows plan well t of.0 in
     let no_proc : ProcRow = record { name = []; space = 0 } in
     let p = proc_of plan t in
     let h : IsOneOf (spaces plan) (get_or plan.procs (p - 1) no_proc).space = All-get_or (λ (q : ProcRow). IsNumberIn plan.spaces q.space) plan.procs (p - 1) no_proc (omega (arith, names.proc.0, names.proc.1)) well.names.procs in

@@ -3,7 +3,6 @@ pub mod LiveKept
 pub mod PlaceKept
 pub mod OutsideKept
 pub mod TasksKept
-pub mod LayoutLemmas
 pub mod EventsLemmas
 pub mod RowsLemmas
 pub mod RegionsLemmas

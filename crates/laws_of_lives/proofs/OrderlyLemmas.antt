@@ -45,8 +45,9 @@ use Rattle.dd_machine.proofs.ProgressLemmas.{next_at, no_entry, row_more}
 use Rattle.laws_of_lives.proofs.EventsLemmas.{begun_append, begun_row, keeps_live, live_row, lives, put_says, puts_live, region_entries}
 use Rattle.laws_of_lives.proofs.RegionsLemmas.{begun_up_of, closed_below_of, unbegun_of, unclosed_of}
 use Rattle.laws_of_lives.proofs.RowsLemmas.{begin_first, begun_rows, row_is}
-use Rattle.laws_of_lives.proofs.LayoutLemmas.{grid_of, has_block, numbered-get}
-use Rattle.dd_machine.proofs.RangesLemmas.{number_in}
+use Rattle.dd_blocks.proofs.LayoutLemmas.{grid_stands, has_block}
+use Rattle.dd_blocks.proofs.NumberedLemmas.{numbered-get, task_names_rows}
+use Rattle.dd_lists.proofs.ListsLemmas.{number_in}
 
 -- ---- lists
 
@@ -194,11 +195,11 @@ touched_block plan well r t b of touched =
     let access : AccessRow = any.1 in
     let here : Contains (task_row plan t).accesses access = (any.0, any.2, any.3) in
     let same : access.view.array ≡ touch.0 = any.4.0 in
-    let names : TaskNamesRows plan (task_row plan t) = subst (TaskNamesRows plan) (sym (numbered-get no_task plan.tasks t of.0.0)) (All-get_or (TaskNamesRows plan) plan.tasks (t - 1) no_task (omega (arith, of.0.0, of.0.1)) well.names.tasks) in
+    let names = task_names_rows plan well t of.0 in
     let within : IsNumberIn plan.arrays access.view.array = All-contains (λ (a : AccessRow). IsNumberIn plan.arrays a.view.array) (task_row plan t).accesses access names.accesses here in
     let shown = All-contains (λ (a : AccessRow). IsShown (array_row plan a.view.array) a.view) (task_row plan t).accesses access task.views here in
     let inside : pos < element_count (array_row plan access.view.array).grid = element_within (shape_in (array_row plan access.view.array)) access.view pos shown.view any.4.1 in
-    let few : block_of (array_row plan access.view.array).grid pos < block_count (array_row plan access.view.array).grid = block_within (array_row plan access.view.array).grid pos (grid_of plan well.layout access.view.array within) inside in
+    let few : block_of (array_row plan access.view.array).grid pos < block_count (array_row plan access.view.array).grid = block_within (array_row plan access.view.array).grid pos (grid_stands plan well.layout access.view.array within) inside in
     let is : (array_row plan access.view.array).first_block + block_of (array_row plan access.view.array).grid pos ≡ b = ap (λ (x : ℕ). block_with plan x pos) same ∙ touch.3 in
     record {
       array = access.view.array;

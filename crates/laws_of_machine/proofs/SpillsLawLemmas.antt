@@ -17,15 +17,15 @@ use Rattle.dd_machine.specs.Sound.{IsSound}
 use Rattle.dd_machine.specs.States.{State}
 use Rattle.dd_machine.specs.Words.{limit}
 use Rattle.laws_of_limits.proofs.SpillsLemmas.{HasProcs, never_over}
-use Rattle.laws_of_lives.proofs.LayoutLemmas.{numbered-get}
 use Rattle.laws_of_lives.proofs.OrderlyLemmas.{orderly}
 use Rattle.laws_of_machine.proofs.SoundLemmas.{keeps_sound, start_sound}
 use Rattle.dd_machine.proofs.RunsLemmas.{run_first, run_parts}
 use Rattle.std.proofs.lemmas.Bool.{or_from}
+use Rattle.dd_blocks.proofs.NumberedLemmas.{task_names_rows}
 
 has_procs : (plan : Plan) → IsWellFormed plan → HasProcs plan
 has_procs plan well t is =
-    let names : TaskNamesRows plan (task_row plan t) = subst (TaskNamesRows plan) (sym (numbered-get no_task plan.tasks t is.0)) (All-get_or (TaskNamesRows plan) plan.tasks (t - 1) no_task (omega (arith, is.0, is.1)) well.names.tasks) in
+    let names = task_names_rows plan well t is in
     names.proc
 
 no_pick : (plan : Plan) (st : State) (event : Event) → HasProcs plan → AllRoomy plan → IsSound plan st → May plan st event → is_pick event ≡ false

@@ -8,7 +8,6 @@ use Rattle.std.proofs.lemmas.List.Sums.{length-filter}
 use Rattle.dd_blocks.specs.declared.plan.Plan.{Plan}
 use Rattle.dd_blocks.specs.declared.proc_row.ProcRow.{ProcRow}
 use Rattle.std.proofs.lemmas.List.Elements.{All-get_or}
-use Rattle.laws_of_lives.proofs.LayoutLemmas.{numbered-get}
 use Rattle.dd_blocks.specs.Numbered.{no_task, task_row}
 use Rattle.dd_blocks.specs.WellFormed.{IsWellFormed, TaskNamesRows}
 use Rattle.dd_meaning.specs.Moves.{home_of, is_kept_in, is_read_in, moves_to, place_of, source_of}
@@ -37,6 +36,7 @@ use Rattle.laws_of_versions.proofs.WhereLemmas.{copied_hit, copied_version}
 use Rattle.laws_of_moved.proofs.BelowLemmas.{below, below_add, below_same, sum_below}
 use Rattle.laws_of_moved.proofs.DeliveredLemmas.{delivered_blocks, delivered_one, delivered_same, home_at, version_at}
 use Rattle.laws_of_moved.proofs.RegionVersionsLemmas.{home_is, not_all_done, of_has, once_current, source_is}
+use Rattle.dd_blocks.proofs.NumberedLemmas.{numbered-get, task_names_rows}
 
 -- a test of the moves that were made depends on the version in the space alone, and only at the current one
 pub del_same : (plan : Plan) (st new : State) (r : ℕ) (e : Element) (v s : ℕ) → new.current e ≡ st.current e → all_done plan new r ≡ all_done plan st r → has_version plan new e v s ≡ has_version plan st e v s → is_delivered plan new r e v s ≡ is_delivered plan st r e v s
@@ -65,7 +65,7 @@ suc_read t x h = ap (λ (b : Bool). b || x) (sym (ne_eqb (suc t) 0 (λ e. omega 
 -- the space of a task is one of the Plan's
 pub place_in : (plan : Plan) → IsWellFormed plan → (t : ℕ) → IsOneOf (tasks plan) t → IsOneOf (spaces plan) (place plan t)
 place_in plan well t is =
-    let names : TaskNamesRows plan (task_row plan t) = subst (TaskNamesRows plan) (sym (numbered-get no_task plan.tasks t is.0)) (All-get_or (TaskNamesRows plan) plan.tasks (t - 1) no_task (omega (arith, is.0, is.1)) well.names.tasks) in
+    let names = task_names_rows plan well t is in
     let proc = names.proc in
     let none : ProcRow = record { name = []; space = 0 } in
     subst (λ (p : ProcRow). IsOneOf (spaces plan) p.space) (sym (numbered-get none plan.procs (task_row plan t).proc proc.0)) (All-get_or (λ (p : ProcRow). IsOneOf (spaces plan) p.space) plan.procs ((task_row plan t).proc - 1) none (omega (arith, proc.0, proc.1)) well.names.procs)

@@ -42,7 +42,7 @@ use Rattle.dd_machine.specs.declared.task_state.TaskState.TheVariants.{Running}
 use Rattle.dd_machine.specs.Effects.{finish_copy}
 use Rattle.dd_machine.specs.SoundVersions.{StillCounts}
 use Rattle.dd_machine.specs.Tests.{is_running}
-use Rattle.dd_machine.proofs.TestsLemmas.{any_finished}
+use Rattle.dd_machine.proofs.TestsLemmas.{any_finished, done_is}
 use Rattle.dd_meaning.specs.Versions.{last_writer}
 use Rattle.laws_of_versions.proofs.ClosedLemmas.{shared_done}
 use Rattle.laws_of_versions.proofs.ConflictLemmas.{both_write, done_before, read_write, write_read}
@@ -120,12 +120,6 @@ known_in plan st r v e well order sound open_is (zero, lt, is) =
 known_in plan st r v e well order sound open_is (suc k, lt, is) =
     let f = in_filter (λ t. task_writes (task_row plan t) e) (tasks_in plan r) v (k, omega (arith, lt), is) in
     inr (has_of plan r v f.0, wrote_is plan v e f.1)
-
-pub done_is : (s : TaskState) → is_done s ≡ true → s ≡ Done
-done_is state.Waiting h = absurd cc
-done_is state.Held h = absurd cc
-done_is (state.Running w) h = absurd cc
-done_is state.Done h = refl
 
 module _ (plan : Plan) (st : State) (task worker r : ℕ) (well : IsWellFormed plan) (order : IsOrderly plan) (sound : IsSound plan st) (running : st.tasks task ≡ Running worker) (open_is : st.region ≡ Some r) where
   abbrev new : State

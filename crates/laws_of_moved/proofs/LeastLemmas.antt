@@ -16,7 +16,7 @@ use Rattle.std.proofs.lemmas.List.Sums.{sum_by-cons}
 use Rattle.laws_of_lives.proofs.ElementsLemmas.{placed}
 use Rattle.dd_machine.specs.States.{at_one}
 use Rattle.dd_machine.proofs.ChangesLemmas.{at_one_tells}
-use Rattle.dd_meaning.specs.Moves.{moves_of, moved}
+use Rattle.dd_meaning.specs.Moves.{moved}
 use Rattle.dd_meaning.specs.Versions.{opening_version, tasks_through}
 use Rattle.dd_blocks.specs.Elements.{task_writes}
 use Rattle.dd_machine.specs.Words.{is_of, writes}
@@ -39,10 +39,9 @@ use Rattle.laws_of_moved.proofs.BelowLemmas.{below, below_zero}
 use Rattle.laws_of_moved.proofs.FinishStep.{reader}
 use Rattle.laws_of_moved.proofs.MovedLemmas.{sum_none}
 use Rattle.laws_of_moved.proofs.OnceLemmas.{Once, once_filter, once_range, sum_one}
-use Rattle.dd_meaning.specs.Moves.{moved, moves_of}
+use Rattle.dd_meaning.specs.Moves.{triples_of}
 use Rattle.dd_machine.specs.Words.{has_number}
-use Rattle.laws_of_versions.proofs.ConflictLemmas.{has_in}
-use Rattle.dd_machine.proofs.RangesLemmas.{number_in}
+use Rattle.dd_lists.proofs.ListsLemmas.{has_number as has_number_in, number_in}
 
 -- what a send brought, and where
 pub record Delivery : Type 0 where
@@ -205,7 +204,7 @@ sum_le f g (x ∷ xs) h =
     omega (arith, a, b, c, d)
 
 pub moved_counted : (plan : Plan) → IsWellFormed plan → (r : ℕ) → moved plan r ≡ counted plan r (moves_to plan r)
-moved_counted plan well r = by_blocks plan well (moves_of plan r)
+moved_counted plan well r = by_blocks plan well (triples_of plan r (moves_to plan r))
 
 one_if : (s t : Bool) → (s ≡ true → t ≡ true) → cond s 1 0 ≤ cond t 1 0
 one_if true t k = rw (k refl) (omega arith)
@@ -249,7 +248,7 @@ one_in xs v k once = ⊎_elim
     omega (arith, e, z))
     (λ (none : has_number xs v ≡ false).
     let z = sum_none (λ x. when (eqb v x) k) xs (λ x has. when_false (eqb v x) k (ne_eqb v x (λ same.
-    let c : true ≡ false = sym (has_in xs v (subst (Contains xs) (sym same) has)) ∙ none in cc))) in
+    let c : true ≡ false = sym (has_number_in xs v (subst (Contains xs) (sym same) has)) ∙ none in cc))) in
     omega (arith, z))
     (cases_Bool (has_number xs v))
 

@@ -5,7 +5,6 @@ use Rattle.std.specs.List.{count_by, range_with_len, sum_by}
 use Rattle.std.proofs.lemmas.Bool.{and_left, and_parts, and_right, cases_Bool, cases_eq, cases_lt, eq-eqb, false_from_ne_true, le-ltb, lt-leb, ne_eqb, not-true, not_from_true, or_from, or_right}
 use Rattle.dd_blocks.specs.declared.plan.Plan.{Plan}
 use Rattle.std.proofs.lemmas.List.Elements.{All-get_or}
-use Rattle.laws_of_lives.proofs.LayoutLemmas.{numbered-get}
 use Rattle.dd_blocks.specs.Numbered.{no_task, task_row}
 use Rattle.dd_blocks.specs.WellFormed.{IsWellFormed, TaskNamesRows}
 use Rattle.dd_meaning.specs.Moves.{home_of, is_kept_in, is_read_in, moves_to, place_of, source_of, versions_in}
@@ -52,7 +51,7 @@ use Rattle.dd_machine.specs.Made.{close_of, was_begun, was_closed}
 use Rattle.dd_machine.specs.Owed.{one_more}
 use Rattle.dd_machine.specs.SoundLimits.{IsOpen}
 use Rattle.dd_machine.specs.States.{Progress}
-use Rattle.dd_machine.proofs.TestsLemmas.{hold_open, pin_of, rested_at, running_by}
+use Rattle.dd_machine.proofs.TestsLemmas.{done_is, hold_open, pin_of, rested_at, running_by}
 use Rattle.dd_machine.proofs.TotalsLemmas.{total_zero}
 use Rattle.laws_of_lives.proofs.MadeLemmas.{out_is}
 use Rattle.laws_of_lives.proofs.RegionsLemmas.{region_is}
@@ -64,8 +63,7 @@ use Rattle.dd_machine.specs.Effects.{order_front}
 use Rattle.dd_machine.specs.Owed.{made}
 use Rattle.dd_machine.proofs.TestsLemmas.{fetch_open}
 use Rattle.dd_machine.proofs.TotalsLemmas.{total_more_one}
-use Rattle.laws_of_lives.proofs.LayoutLemmas.{numbered-get}
-use Rattle.laws_of_moved.proofs.FinishStep.{done_is, finished_delivered, reader}
+use Rattle.laws_of_moved.proofs.FinishStep.{finished_delivered, reader}
 use Rattle.laws_of_moved.proofs.OtherSteps.{all_made, none_by_free, none_by_make, none_by_state, none_by_task}
 use Rattle.laws_of_moved.proofs.OnceLemmas.{Once}
 use Rattle.dd_meaning.specs.Moves.{moved}
@@ -73,6 +71,7 @@ use Rattle.dd_machine.specs.SoundMoved.{SoundMoved, closed_moves, open_moves, re
 use Rattle.dd_machine.specs.SoundLives.{SoundLives}
 use Rattle.dd_machine.specs.SoundVersions.{SoundVersions}
 use Rattle.dd_machine.specs.Runs.{start}
+use Rattle.dd_blocks.proofs.NumberedLemmas.{task_names_rows}
 
 pub sum_none : (f : ℕ → ℕ) (xs : List ℕ) → ((x : ℕ) → Contains xs x → f x ≡ 0) → sum_by f xs ≡ 0
 sum_none f [] none = refl
@@ -138,7 +137,7 @@ module _ (plan : Plan) (st : State) (r : ℕ) (well : IsWellFormed plan) (order 
           let l = (last_writer_le plan e (tasks_through plan (r - 1))).0 in
           let o = opening_current e in
           let up = through_task plan well (r - 1) v of.0 (omega (arith, le, l, o)) in
-          let names : TaskNamesRows plan (task_row plan v) = subst (TaskNamesRows plan) (sym (numbered-get no_task plan.tasks v of.0.0)) (All-get_or (TaskNamesRows plan) plan.tasks (v - 1) no_task (omega (arith, of.0.0, of.0.1)) well.names.tasks) in
+          let names = task_names_rows plan well v of.0 in
           let first = names.region.0 in
           let same = of.1 in
           absurd (omega (arith, up, same, first)))

@@ -6,7 +6,7 @@ use Rattle.std.proofs.lemmas.Bool.{and_from, and_left, and_parts, cases_Bool, ca
 use Rattle.dd_blocks.specs.declared.plan.Plan.{Plan}
 use Rattle.dd_blocks.specs.Numbered.{task_row}
 use Rattle.dd_blocks.specs.WellFormed.{IsWellFormed}
-use Rattle.dd_meaning.specs.Moves.{home_of, is_kept_in, is_read_in, moves_to, place_of, source_of, versions_in}
+use Rattle.dd_meaning.specs.Moves.{home_of, is_kept_in, is_read_in, moves_to, place_of, source_of, triples_of, versions_in}
 use Rattle.dd_meaning.specs.Versions.{tasks_in}
 use Rattle.dd_blocks.specs.Elements.{Element}
 use Rattle.dd_machine.specs.declared.task_state.TaskState.TheVariants.{Done}
@@ -38,7 +38,7 @@ use Rattle.dd_machine.specs.States.{at_copy, at_one}
 use Rattle.dd_machine.proofs.ChangesLemmas.{at_copy_tells, at_one_same}
 use Rattle.dd_machine.proofs.TestsLemmas.{any_in_state, current_version, same_at, versions_in_state}
 use Rattle.dd_machine.proofs.TotalsLemmas.{total_same}
-use Rattle.dd_meaning.specs.Moves.{moves_of, moved}
+use Rattle.dd_meaning.specs.Moves.{moved}
 use Rattle.dd_meaning.specs.Versions.{opening_version, tasks_through}
 use Rattle.dd_blocks.specs.Elements.{task_writes}
 use Rattle.dd_machine.specs.Words.{is_of, writes}
@@ -179,9 +179,9 @@ before_done plan st r t well order sound open_is all is le =
 pub all_made : (plan : Plan) → IsWellFormed plan → IsOrderly plan → (st : State) (r : ℕ) → IsSound plan st → MayClose plan st r → delivered plan st r ≡ moved plan r
 all_made plan well order st r sound may =
     delivered_blocks plan well st r
-    ∙ total_same (blocks plan) (λ b. below (size plan b) (λ i. delivered_of plan st r (element plan b i))) (λ b. below (size plan b) (λ i. moves_of plan r (element plan b i)))
-    (λ b is. below_same (size plan b) (λ i. delivered_of plan st r (element plan b i)) (λ i. moves_of plan r (element plan b i)) (λ i lt. each b i lt))
-    ∙ sym (by_blocks plan well (moves_of plan r))
+    ∙ total_same (blocks plan) (λ b. below (size plan b) (λ i. delivered_of plan st r (element plan b i))) (λ b. below (size plan b) (λ i. triples_of plan r (moves_to plan r) (element plan b i)))
+    (λ b is. below_same (size plan b) (λ i. delivered_of plan st r (element plan b i)) (λ i. triples_of plan r (moves_to plan r) (element plan b i)) (λ i lt. each b i lt))
+    ∙ sym (by_blocks plan well (triples_of plan r (moves_to plan r)))
   where
     made_all : (b i v s : ℕ) → i < size plan b → Contains (versions_in plan r (element plan b i)) v → moves_to plan r (element plan b i) v s ≡ true → is_delivered plan st r (element plan b i) v s ≡ true
     made_all b i v s lt has moves =
@@ -237,7 +237,7 @@ all_made plan well order st r sound may =
             version_at plan well st b i v s lt ∙ and_from (is_in_state is_any (st.copies s b)) (eqb (version st s b i) v) there
             (eq-eqb (version st s b i) v (current_version plan st s b i (may.current s b there) lt ∙ sym is))
 
-    each : (b i : ℕ) → i < size plan b → delivered_of plan st r (element plan b i) ≡ moves_of plan r (element plan b i)
+    each : (b i : ℕ) → i < size plan b → delivered_of plan st r (element plan b i) ≡ triples_of plan r (moves_to plan r) (element plan b i)
     each b i lt =
         sum_same (λ v. count_by (λ s. moves_to plan r (element plan b i) v s && is_delivered plan st r (element plan b i) v s) (range_with_len 1 (spaces plan))) (λ v. count_by (moves_to plan r (element plan b i) v) (range_with_len 1 (spaces plan))) (versions_in plan r (element plan b i))
         (λ v has. sum_same (λ s. cond (moves_to plan r (element plan b i) v s && is_delivered plan st r (element plan b i) v s) 1 0) (λ s. cond (moves_to plan r (element plan b i) v s) 1 0) (range_with_len 1 (spaces plan))

@@ -22,7 +22,6 @@ use Rattle.dd_machine.specs.Tests.{is_done, is_waiting}
 use Rattle.dd_machine.specs.Words.{IsOf, IsOneOf, blocks, element, is_of, size, tasks, writes}
 use Rattle.laws_of_lives.proofs.ElementsLemmas.{placed}
 use Rattle.laws_of_lives.proofs.HomesOfRows.{homes_open}
-use Rattle.laws_of_lives.proofs.LayoutLemmas.{numbered-get}
 use Rattle.laws_of_lives.proofs.RegionsLemmas.{task_through, through_task}
 use Rattle.laws_of_versions.proofs.ClosedLemmas.{last_is, last_writer_le}
 use Rattle.laws_of_versions.proofs.ConflictLemmas.{writer_within}
@@ -30,6 +29,7 @@ use Rattle.laws_of_moved.proofs.DeliveredLemmas.{home_at}
 use Rattle.laws_of_moved.proofs.OnceLemmas.{Once, once_filter, once_range}
 use Rattle.dd_machine.specs.SoundLives.{SoundLives}
 use Rattle.dd_machine.specs.SoundVersions.{SoundVersions}
+use Rattle.dd_blocks.proofs.NumberedLemmas.{task_names_rows}
 
 -- ---- the tasks of a region
 
@@ -91,7 +91,7 @@ source_is plan st r b i well sound open_is lt =
 -- what was written before the region is no task of it
 pub before_region : (plan : Plan) → IsWellFormed plan → (r v : ℕ) (e : Element) → v ≡ opening_version plan r e → IsOf plan r v → ⊥
 before_region plan well r v e is of =
-    let names : TaskNamesRows plan (task_row plan v) = subst (TaskNamesRows plan) (sym (numbered-get no_task plan.tasks v of.0.0)) (All-get_or (TaskNamesRows plan) plan.tasks (v - 1) no_task (omega (arith, of.0.0, of.0.1)) well.names.tasks) in
+    let names = task_names_rows plan well v of.0 in
     let low = (last_writer_le plan e (tasks_through plan (r - 1))).0 in
     let up = through_task plan well (r - 1) v of.0 (omega (arith, low, is)) in
     let same = of.1 in
@@ -135,6 +135,6 @@ once_current plan st r e well order lives versions open_is = ⊎_elim
     high u le wrote =
         let is = writer_within plan u e wrote in
         let up = through_task plan well (r - 1) u is le in
-        let names : TaskNamesRows plan (task_row plan u) = subst (TaskNamesRows plan) (sym (numbered-get no_task plan.tasks u is.0)) (All-get_or (TaskNamesRows plan) plan.tasks (u - 1) no_task (omega (arith, is.0, is.1)) well.names.tasks) in
+        let names = task_names_rows plan well u is in
         let first = names.region.0 in
         versions.current_last e u (lives.closed_done u is (order.closed_below st.progress r u (lives.open_next r open_is) is (omega (arith, up, first)))) wrote

@@ -1,9 +1,9 @@
 -- Where a region closes, the current version of each element is the last that the region knows.
-use Rattle.std.proofs.Common.{◌≡◌, ◌≢◌, ℕ, zero, suc, ◌-◌, ◌<◌, ◌≤◌, Bool, true, false, cond, Some, refl, ap, sym, ◌∙◌, ⊎_elim, arith}
-use Rattle.std.proofs.lemmas.Bool.{cases_eq, cases_lt}
+use Rattle.std.proofs.Common.{Bool, Some, ap, arith, cond, false, refl, suc, sym, true, zero, ℕ, ⊎_elim, ◌&&◌, ◌-◌, ◌<◌, ◌∙◌, ◌≡◌, ◌≢◌, ◌≤◌}
+use Rattle.std.proofs.lemmas.Bool.{and_from, and_parts, cases_eq, cases_lt}
 use Rattle.dd_blocks.specs.Conflicts.{AreInConflict}
 use Rattle.dd_blocks.specs.WellFormed.{IsWellFormed}
-use Rattle.dd_meaning.specs.Versions.{last_version, last_writer, needed_version, tasks_through}
+use Rattle.dd_meaning.specs.Versions.{last_version, last_writer, last_writer_among, latest, needed_version, tasks_through}
 use Rattle.dd_blocks.specs.Elements.{Element, task_writes}
 use Rattle.dd_machine.specs.Legal.{AllDone}
 use Rattle.dd_machine.specs.Orderly.{IsOrderly}
@@ -15,26 +15,38 @@ use Rattle.dd_machine.specs.declared.task_state.TaskState.TheVariants.{Waiting, 
 use Rattle.dd_machine.specs.Legal.{IsNext}
 use Rattle.dd_machine.specs.Sound.{IsSound}
 use Rattle.dd_machine.specs.States.{State}
-use Rattle.dd_machine.specs.Tests.{is_active, is_waiting}
+use Rattle.dd_machine.specs.Tests.{is_active, is_done, is_waiting}
 use Rattle.dd_machine.specs.Words.{IsOf, IsOneOf, reads, tasks, writes}
 use Rattle.laws_of_versions.proofs.ConflictLemmas.{dep_of, done_before, read_write, write_read, writer_within}
 use Rattle.laws_of_lives.proofs.RegionsLemmas.{region_order, task_through, through_task}
+use Rattle.dd_meaning.proofs.LatestLemmas.{latest_ge, latest_le, latest_passes}
+use Rattle.dd_machine.proofs.TestsLemmas.{done_is}
+use Rattle.dd_machine.specs.SoundLives.{SoundLives}
+use Rattle.dd_machine.specs.SoundVersions.{SoundVersions}
 
--- the greatest writer up to n, told by what it is
+-- the greatest number up to n that passes, told by what it is
+pub latest_is : (passes : ℕ → Bool) (c n : ℕ) → c ≤ n → (c ≢ 0 → passes c ≡ true) → ((u : ℕ) → u ≤ n → passes u ≡ true → u ≤ c) → latest passes n ≡ c
+latest_is passes c n le passed last =
+    let up : latest passes n ≤ c = ⊎_elim (λ (z : latest passes n ≡ 0). omega (arith, z)) (λ (nz : latest passes n ≡ 0 → ⊥). last (latest passes n) (latest_le passes n) (latest_passes passes n nz)) (cases_eq (latest passes n) 0) in
+    let down : c ≤ latest passes n = ⊎_elim (λ (z : c ≡ 0). omega (arith, z)) (λ (nz : c ≡ 0 → ⊥). latest_ge passes c n (omega (arith, nz)) le (passed nz)) (cases_eq c 0) in
+    omega (arith, up, down)
+
+-- the greatest writer up to n
 pub last_is : (plan : Plan) (e : Element) (c n : ℕ) → c ≤ n → (c ≢ 0 → writes plan c e ≡ true) → ((u : ℕ) → u ≤ n → writes plan u e ≡ true → u ≤ c) → last_writer plan e n ≡ c
 unfolding writes
-last_is plan e c zero le wrote last = omega (arith, le)
-last_is plan e c (suc n) le wrote last = by (task_writes (task_row plan (suc n)) e) refl (last_is plan e c n)
-  where
-    by : (w : Bool) → task_writes (task_row plan (suc n)) e ≡ w → (c ≤ n → (c ≢ 0 → task_writes (task_row plan c) e ≡ true) → ((u : ℕ) → u ≤ n → task_writes (task_row plan u) e ≡ true → u ≤ c) → last_writer plan e n ≡ c)
-        → cond (task_writes (task_row plan (suc n)) e) (suc n) (last_writer plan e n) ≡ c
-    by true is rest = let high = last (suc n) (omega arith) is in rw is (omega (arith, le, high))
-    by false is rest =
-        let low : c ≤ n = ⊎_elim
-        (λ (same : c ≡ suc n). absurd (let w : task_writes (task_row plan c) e ≡ true = wrote (λ none. omega (arith, none, same)) in let h : true ≡ false = sym w ∙ ap (λ (x : ℕ). task_writes (task_row plan x) e) same ∙ is in cc))
-        (λ (ne : c ≡ suc n → ⊥). omega (arith, le, ne))
-        (cases_eq c (suc n)) in
-        rw is (rest low wrote (λ u u_le. last u (omega (arith, u_le))))
+last_is plan e c n le wrote last = latest_is (λ t. true && task_writes (task_row plan t) e) c n le wrote last
+
+pub last_writer_le : (plan : Plan) (e : Element) (n : ℕ) → (last_writer plan e n ≤ n) × (last_writer plan e n ≢ 0 → writes plan (last_writer plan e n) e ≡ true)
+unfolding writes
+last_writer_le plan e n = (latest_le (λ t. true && task_writes (task_row plan t) e) n, latest_passes (λ t. true && task_writes (task_row plan t) e) n)
+
+-- the current version is the greatest done task that writes the element
+pub current_is : (plan : Plan) (st : State) (e : Element) → SoundLives plan st → SoundVersions plan st → st.current e ≡ last_writer_among plan (λ t. is_done (st.tasks t)) e (tasks plan)
+unfolding writes
+current_is plan st e lives versions = sym (latest_is (λ t. is_done (st.tasks t) && task_writes (task_row plan t) e) (st.current e) (tasks plan)
+    (⊎_elim (λ (z : st.current e ≡ 0). omega (arith, z)) (λ (nz : st.current e ≡ 0 → ⊥). (writer_within plan (st.current e) e (lives.current_done e nz).1).1) (cases_eq (st.current e) 0))
+    (λ some. let d = lives.current_done e some in and_from (is_done (st.tasks (st.current e))) (task_writes (task_row plan (st.current e)) e) (ap is_done d.0) d.1)
+    (λ u le is. let p = and_parts (is_done (st.tasks u)) (task_writes (task_row plan u) e) is in versions.current_last e u (done_is (st.tasks u) p.0) p.1))
 
 pub current_is_last : (plan : Plan) (st : State) (r : ℕ) (e : Element) → IsWellFormed plan → IsOrderly plan → IsSound plan st → st.region ≡ Some r → AllDone plan st r → st.current e ≡ last_version plan r e
 current_is_last plan st r e well order sound open_is all_done = sym (last_is plan e (st.current e) (tasks_through plan r) low (λ some. (sound.lives.current_done e some).1) high)
@@ -78,17 +90,6 @@ shared_done plan st r t u well order sound open_is of off u_is lt conflict =
     let same : (task_row plan u).region ≡ (task_row plan t).region = omega (arith, up, ge, same_r) in
     sound.versions.deps_done t u off (dep_of plan well u t u_is of.0 lt same conflict))
     (cases_lt (task_row plan u).region r)
-
-pub last_writer_le : (plan : Plan) (e : Element) (n : ℕ) → (last_writer plan e n ≤ n) × (last_writer plan e n ≢ 0 → writes plan (last_writer plan e n) e ≡ true)
-unfolding writes
-last_writer_le plan e zero = (omega arith, λ some. absurd (some refl))
-last_writer_le plan e (suc n) = by (task_writes (task_row plan (suc n)) e) refl (last_writer_le plan e n)
-  where
-    by : (w : Bool) → task_writes (task_row plan (suc n)) e ≡ w → ((last_writer plan e n ≤ n) × (last_writer plan e n ≢ 0 → task_writes (task_row plan (last_writer plan e n)) e ≡ true))
-        → (cond (task_writes (task_row plan (suc n)) e) (suc n) (last_writer plan e n) ≤ suc n)
-        × (cond (task_writes (task_row plan (suc n)) e) (suc n) (last_writer plan e n) ≢ 0 → task_writes (task_row plan (cond (task_writes (task_row plan (suc n)) e) (suc n) (last_writer plan e n))) e ≡ true)
-    by true is rest = rw is (omega arith, λ some. is)
-    by false is rest = let low = rest.0 in rw is (omega (arith, low), rest.1)
 
 -- what a task at work or done needs isn't above the current version
 pub need_le_current : (plan : Plan) (st : State) (r t : ℕ) (e : Element) → IsWellFormed plan → IsOrderly plan → IsSound plan st → st.region ≡ Some r → IsOf plan r t → is_waiting (st.tasks t) ≡ false → reads plan t e ≡ true

@@ -8,57 +8,45 @@ use Rattle.dd_views.specs.IndexList.{index_list}
 use Rattle.dd_blocks.specs.declared.access_row.AccessRow.{AccessRow}
 use Rattle.dd_blocks.specs.declared.plan.Plan.{Plan}
 use Rattle.dd_blocks.specs.Conflicts.{AreInConflict}
-use Rattle.dd_blocks.specs.Elements.{HasElement, UsesElement, WritesElement, reads as reads_mode, writes as writes_mode}
+use Rattle.dd_blocks.specs.Elements.{UsesElement, WritesElement}
 use Rattle.dd_blocks.specs.Numbered.{task_row}
 use Rattle.dd_blocks.specs.WellFormed.{IsWellFormed}
-use Rattle.dd_blocks.specs.Elements.{Element, has}
+use Rattle.dd_blocks.specs.Elements.{Element}
 use Rattle.dd_machine.specs.declared.task_state.TaskState.TheVariants.{Done}
 use Rattle.dd_machine.specs.Orderly.{IsOrderly}
 use Rattle.dd_machine.specs.Sound.{IsSound}
 use Rattle.dd_machine.specs.States.{State}
 use Rattle.dd_machine.specs.Tests.{is_active, is_waiting}
 use Rattle.dd_machine.specs.Words.{IsOneOf, element, has_number, reads, tasks, writes}
-use Rattle.laws_of_lives.proofs.OrderlyLemmas.{task_within}
 use Rattle.laws_of_lives.proofs.RegionsLemmas.{region_order}
-use Rattle.dd_machine.proofs.RangesLemmas.{number_in}
 use Rattle.dd_machine.specs.Needed.{is_current_at, is_needed, own_space, source}
-
-has_of : (access : AccessRow) (e : Element) → has access e ≡ true → HasElement access e.array e.pos
-has_of access e h =
-    let parts = and_parts (eqb access.view.array e.array) (list_any (λ p. eqb p e.pos) (index_list access.view)) h in
-    (eqb-true access.view.array e.array parts.0, number_in (index_list access.view) e.pos parts.1)
+use Rattle.dd_blocks.proofs.ElementsLemmas as blocks
+use Rattle.dd_blocks.proofs.ElementsLemmas.{writes_element}
+use Rattle.dd_lists.proofs.ListsLemmas.{has_number as has_number_in}
 
 pub write_of : (plan : Plan) (t : ℕ) (e : Element) → writes plan t e ≡ true → WritesElement (task_row plan t) e.array e.pos
 unfolding writes
-write_of plan t e h =
-    let any = Any-from_list_any (λ (a : AccessRow). writes_mode a.mode && has a e) (task_row plan t).accesses h in
-    let parts = and_parts (writes_mode any.1.mode) (has any.1 e) any.4 in
-    (any.0, any.1, any.2, any.3, (parts.0, has_of any.1 e parts.1))
+write_of plan t e h = (writes_element (task_row plan t) e).0 h
 
 pub use_of_write : (plan : Plan) (t : ℕ) (e : Element) → writes plan t e ≡ true → UsesElement (task_row plan t) e.array e.pos
-use_of_write plan t e h = let w = write_of plan t e h in (w.0, w.1, w.2, w.3, w.4.1)
+unfolding writes
+use_of_write plan t e h = blocks.use_of_write (task_row plan t) e h
 
 pub use_of_read : (plan : Plan) (t : ℕ) (e : Element) → reads plan t e ≡ true → UsesElement (task_row plan t) e.array e.pos
 unfolding reads
-use_of_read plan t e h =
-    let any = Any-from_list_any (λ (a : AccessRow). reads_mode a.mode && has a e) (task_row plan t).accesses h in
-    let parts = and_parts (reads_mode any.1.mode) (has any.1 e) any.4 in
-    (any.0, any.1, any.2, any.3, has_of any.1 e parts.1)
+use_of_read plan t e h = blocks.use_of_read (task_row plan t) e h
 
 pub writer_within : (plan : Plan) (t : ℕ) (e : Element) → writes plan t e ≡ true → IsOneOf (tasks plan) t
 unfolding writes
-writer_within plan t e h = task_within plan (λ (a : AccessRow). writes_mode a.mode && has a e) t h
+writer_within plan t e h = blocks.writer_within plan t e h
 
 pub reader_within : (plan : Plan) (t : ℕ) (e : Element) → reads plan t e ≡ true → IsOneOf (tasks plan) t
 unfolding reads
-reader_within plan t e h = task_within plan (λ (a : AccessRow). reads_mode a.mode && has a e) t h
-
-pub has_in : (xs : List ℕ) (n : ℕ) → Contains xs n → has_number xs n ≡ true
-has_in xs n here = list_any_at (λ x. eqb x n) xs here.0 n here.1 (eq-eqb (get_or xs here.0 n) n here.2)
+reader_within plan t e h = blocks.reader_within plan t e h
 
 pub dep_of : (plan : Plan) → IsWellFormed plan → (t u : ℕ) → IsOneOf (tasks plan) t → IsOneOf (tasks plan) u → t < u → (task_row plan t).region ≡ (task_row plan u).region → AreInConflict (task_row plan t) (task_row plan u)
     → has_number (task_row plan u).deps t ≡ true
-dep_of plan well t u t_is u_is lt same conflict = has_in (task_row plan u).deps t (((well.tasks u u_is).deps t).1 ((t_is.0, lt, conflict), same))
+dep_of plan well t u t_is u_is lt same conflict = has_number_in (task_row plan u).deps t (((well.tasks u u_is).deps t).1 ((t_is.0, lt, conflict), same))
 
 pub both_write : (plan : Plan) (t u : ℕ) (e : Element) → writes plan t e ≡ true → writes plan u e ≡ true → AreInConflict (task_row plan t) (task_row plan u)
 both_write plan t u e a b = (e.array, e.pos, inl (write_of plan t e a, use_of_write plan u e b))
