@@ -1,7 +1,8 @@
 pub mod Computing
 pub mod RowPlan
 mod RowExamples
-mod RowLegal
+pub mod RowLegal
+pub mod RowWellFormed
 pub mod ChangesLemmas
 pub mod RangesLemmas
 pub mod RunsLemmas
