@@ -6,6 +6,7 @@ pub mod RowWellFormed
 pub mod ChangesLemmas
 pub mod RangesLemmas
 pub mod RunsLemmas
+pub mod PropsLemmas
 pub mod ProgressLemmas
 pub mod TestsLemmas
 pub mod TotalsLemmas
