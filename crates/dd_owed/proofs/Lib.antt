@@ -1,0 +1,4 @@
+mod LayoutLemmas
+mod PiecesLemmas
+mod BlocksLemmas
+mod RowsLemmas
