@@ -5,7 +5,8 @@ use Rattle.std.proofs.lemmas.List.Elements.{All-cons, All-nil}
 use Rattle.dd_views.specs.declared.shape.Shape.{Shape}
 use Rattle.dd_blocks.specs.declared.access_row.AccessRow.{AccessRow}
 use Rattle.dd_blocks.specs.declared.task_row.TaskRow.{TaskRow}
-use Rattle.dd_blocks.specs.Conflicts.{AreInConflict, UsesElement, WritesElement, writes}
+use Rattle.dd_blocks.specs.Conflicts.{AreInConflict}
+use Rattle.dd_blocks.specs.Elements.{UsesElement, WritesElement, writes}
 use Rattle.dd_blocks.specs.Numbered.{no_task}
 use Rattle.dd_alias.specs.Clashes.{ClashesWithSome}
 use Rattle.dd_alias.specs.Shapes.{AreViewsBy, HaveOneShape}

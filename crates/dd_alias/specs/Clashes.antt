@@ -1,7 +1,7 @@
 -- Which accesses keep their order.
 use Rattle.std.specs.Prelude.{◌≡◌, ◌⊎◌, true, List, Any}
 use Rattle.dd_blocks.specs.declared.access_row.AccessRow.{AccessRow}
-use Rattle.dd_blocks.specs.Conflicts.{writes}
+use Rattle.dd_blocks.specs.Elements.{writes}
 use Rattle.dd_alias.specs.Overlap.{Overlaps}
 
 -- one of both writes, and they share an element

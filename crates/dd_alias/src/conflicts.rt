@@ -2,7 +2,8 @@
 ghost use Rattle.std.specs.Prelude.{◌≡◌, ◌↔◌, ◌⊎◌, ℕ, true, IsTrue, Any, [], ◌∷◌};
 ghost use Rattle.dd_views.specs.declared.shape.Shape.{Shape};
 ghost use Rattle.dd_views.specs.Views.{IsViewOf};
-ghost use Rattle.dd_blocks.specs.Conflicts.{AreInConflict, writes};
+ghost use Rattle.dd_blocks.specs.Conflicts.{AreInConflict};
+ghost use Rattle.dd_blocks.specs.Elements.{writes};
 ghost use Rattle.dd_alias.specs.Clashes.{Clash, ClashesWithSome};
 ghost use Rattle.dd_alias.specs.Shapes.{AreViewsBy, HaveOneShape};
 

@@ -4,5 +4,10 @@ pub mod SizesLemmas
 pub mod HomesLemmas
 pub mod ArrayHomesLemmas
 pub mod MovedSpacesLemmas
+pub mod NumberedLemmas
+pub mod ElementsLemmas
+pub mod TouchedLemmas
+pub mod LayoutLemmas
+pub mod PlanElementsLemmas
 mod GridExamples
 mod HomesExamples

@@ -6,7 +6,7 @@ use Rattle.dd_views.specs.IndexList.{index_list}
 use Rattle.dd_blocks.specs.declared.access_row.AccessRow.{AccessRow}
 use Rattle.dd_blocks.specs.declared.plan.Plan.{Plan}
 use Rattle.dd_blocks.specs.declared.task_row.TaskRow.{TaskRow}
-use Rattle.dd_blocks.specs.Conflicts.{UsesElement}
+use Rattle.dd_blocks.specs.Elements.{UsesElement}
 use Rattle.dd_blocks.specs.Grids.{block_of}
 use Rattle.dd_blocks.specs.Numbered.{array_row, block_row}
 

@@ -2,11 +2,14 @@ pub mod Grids
 pub mod Numbered
 pub mod Homes
 pub mod ArrayHomes
+pub mod Elements
 pub mod Conflicts
 pub mod Charges
 pub mod Limits
+pub mod PlanElements
 pub mod Layout
 pub mod Lives
 pub mod Tasks
 pub mod Touches
 pub mod WellFormed
+pub mod Lines

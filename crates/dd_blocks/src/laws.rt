@@ -1,9 +1,15 @@
 //! Laws over the definitions of this crate. Each is a function without arguments whose contract is the law.
 
-ghost use Rattle.std.specs.Prelude.{◌≡◌, ◌<◌, ℕ, map, sum};
+ghost use Rattle.std.specs.Prelude.{◌≡◌, ◌↔◌, ◌<◌, ◌||◌, ℕ, true, map, sum};
 ghost use Rattle.std.specs.List.{range_with_len};
 ghost use Rattle.dd_blocks.specs.declared.grid.Grid.{Grid};
+ghost use Rattle.dd_blocks.specs.declared.plan.Plan.{Plan};
+ghost use Rattle.dd_blocks.specs.declared.task_row.TaskRow.{TaskRow};
+ghost use Rattle.dd_blocks.specs.Elements.{Element, UsesElement, WritesElement, task_reads, task_writes};
 ghost use Rattle.dd_blocks.specs.Grids.{IsGrid, block_count, block_of, block_size, element_count, place_in_block, pos_of};
+ghost use Rattle.dd_blocks.specs.Layout.{IsLaidOut, elements_in};
+ghost use Rattle.dd_blocks.specs.Numbered.{IsNumberIn, block_row};
+ghost use Rattle.dd_blocks.specs.PlanElements.{IsElement, block_of_element, element_of, elements, number_of, place_of_element};
 
 /// Each position of an array has a place in a block, and that place has the position.
 pub fn place_of_position()
@@ -24,4 +30,32 @@ pub fn position_of_place()
 /// The sizes of all blocks sum to the elements of the array.
 pub fn sizes_sum()
     ensures { (g : Grid) → IsGrid g → sum (map (block_size g) (range_with_len 0 (block_count g))) ≡ element_count g }
+{}
+
+/// The elements of all arrays are numbered as they stand, one array after the other.
+pub fn elements_are_numbered()
+    ensures { (plan : Plan) → IsLaidOut plan → map (number_of plan) (elements plan) ≡ range_with_len 0 (elements_in plan.arrays) }
+{}
+
+/// Each element of a Plan has a place in a block, and that place has the element.
+pub fn place_of_element()
+    ensures { (plan : Plan) (e : Element) → IsLaidOut plan → IsElement plan e
+        → IsNumberIn plan.blocks (block_of_element plan e)
+        × (place_of_element plan e < (block_row plan (block_of_element plan e)).size)
+        × (element_of plan (block_of_element plan e) (place_of_element plan e) ≡ e) }
+{}
+
+/// Each place in a block of a Plan has an element, which is in that block and has that place.
+pub fn element_of_place()
+    ensures { (plan : Plan) (block place : ℕ) → IsLaidOut plan → IsNumberIn plan.blocks block → place < (block_row plan block).size
+        → IsElement plan (element_of plan block place)
+        × (block_of_element plan (element_of plan block place) ≡ block)
+        × (place_of_element plan (element_of plan block place) ≡ place) }
+{}
+
+/// The tests for what a task writes and uses say what the facts say.
+pub fn tests_are_facts()
+    ensures { (task : TaskRow) (e : Element)
+        → ((task_writes task e ≡ true) ↔ WritesElement task e.array e.pos)
+        × (((task_reads task e || task_writes task e) ≡ true) ↔ UsesElement task e.array e.pos) }
 {}

@@ -9,13 +9,12 @@ use Rattle.dd_blocks.specs.declared.task_row.TaskRow.{TaskRow}
 use Rattle.dd_blocks.specs.declared.what.What.{What}
 use Rattle.dd_blocks.specs.declared.what.What.TheVariants.{Put, Print, Sum, Moved, Same, Drop, MoveTo, Region}
 use Rattle.dd_blocks.specs.Charges.{AreTouched, Touches, access_elements, block_with, charge_of, greatest, touched_sizes}
-use Rattle.dd_blocks.specs.Conflicts.{HasElement, UsesElement}
-use Rattle.dd_blocks.specs.Grids.{block_of}
+use Rattle.dd_blocks.specs.Elements.{HasElement, UsesElement}
+use Rattle.dd_blocks.specs.Grids.{block_of, block_count}
 use Rattle.dd_blocks.specs.Lives.{arrays_used, regions_run, tasks_of}
 use Rattle.dd_blocks.specs.Numbered.{IsNumberIn, array_row, block_row, task_row}
 use Rattle.dd_blocks.specs.Tasks.{IsDependency, IsShown, IsSoundTask, limit_at}
 use Rattle.dd_blocks.specs.Touches.{touches_of}
-use Rattle.dd_blocks.specs.Grids.{block_count}
 use Rattle.dd_blocks.specs.WellFormed.{IsRegion, StatementNamesRows, TaskNamesRows}
 use Rattle.dd_check.proofs.RowsLemmas.{All_any, map_agree, number_within}
 

@@ -16,17 +16,6 @@ use Rattle.dd_blocks.specs.Tasks.{shape_in}
 use Rattle.dd_check.specs.Pieces.{AreKept, IsSlice, piece_at}
 use Rattle.dd_check.specs.Touching.{Adds, Between, HasSmallNumbers, IsBlockAt, IsTouchedBy, IsTouchedIn, number_of_block}
 
--- an element of a view stands within its array
-pub element_within : (shape : Shape) (v : View) (pos : ℕ) → IsViewOf shape v → Contains (index_list v) pos → pos < shape.rows * shape.cols
-element_within shape v pos view there =
-    let e = found (position v) v.part v.rows.count v.cols.count pos there in
-    let at = numbers v pos e.0 e.1 (shape, view) e.2 in
-    let r = number_low shape.rows v.rows e.0 view.rows e.2.row.0 e.2.row.1 in
-    let c = number_low shape.cols v.cols e.1 view.cols e.2.col.0 e.2.col.1 in
-    let row : pos % v.height < v.height = omega (arith, at.row, r.1, view.height) in
-    let col : pos / v.height < shape.cols = omega (arith, at.col, c.1) in
-    omega (arith, mul-add-lt (pos / v.height) v.height (pos % v.height) shape.cols col row, div-add-mod' pos v.height, ap (λ (h : ℕ). h * shape.cols) view.height)
-
 adds_one : (xs : List ℕ) (y z : ℕ) → z ≡ y → Adds (λ n. y ≡ n) xs (xs ++ z ∷ [])
 adds_one xs y z same = record {
   exact = λ n. (

@@ -16,7 +16,7 @@ use Rattle.dd_blocks.specs.WellFormed.{HasSmallEdges}
 use Rattle.dd_blocks.proofs.GridLemmas.{block_within}
 use Rattle.dd_place.specs.Premises.{HasBlocks, IsOfPlan}
 use Rattle.dd_check.specs.Touching.{Adds, AreOf, HasSmallNumbers, HoldsSome}
-use Rattle.dd_check.proofs.TouchedLemmas.{element_within}
+use Rattle.dd_views.proofs.WithinLemmas.{element_within}
 
 -- some element of a list with one more
 any_before : (P : AccessRow → Type 0) (xs : List AccessRow) (y : AccessRow) → Any P xs → Any P (xs ++ y ∷ [])

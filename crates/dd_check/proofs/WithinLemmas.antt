@@ -5,7 +5,7 @@ use Rattle.dd_blocks.specs.declared.access_row.AccessRow.{AccessRow}
 use Rattle.dd_blocks.specs.declared.plan.Plan.{Plan}
 use Rattle.dd_blocks.specs.declared.task_row.TaskRow.{TaskRow}
 use Rattle.dd_blocks.specs.Charges.{AreTouched, Touches, block_with}
-use Rattle.dd_blocks.specs.Conflicts.{HasElement}
+use Rattle.dd_blocks.specs.Elements.{HasElement}
 use Rattle.dd_blocks.specs.Grids.{block_count, block_of, element_count}
 use Rattle.dd_blocks.specs.Numbered.{IsNumberIn, array_row, no_array}
 use Rattle.dd_blocks.specs.Tasks.{IsShown, shape_in}
@@ -15,7 +15,7 @@ use Rattle.dd_place.specs.Premises.{HasBlocks}
 use Rattle.dd_place.proofs.PremisesLemmas.{can_place}
 use Rattle.dd_check.specs.Above.{Above, settle}
 use Rattle.dd_check.specs.Sound.{IsSound}
-use Rattle.dd_check.proofs.TouchedLemmas.{element_within}
+use Rattle.dd_views.proofs.WithinLemmas.{element_within}
 use Rattle.dd_check.proofs.ClearLemmas.{some_row}
 use Rattle.dd_check.proofs.ElementsLemmas.{contained}
 use Rattle.dd_check.proofs.MachineLemmas.{settle_sound}

@@ -1,17 +1,9 @@
 -- Lists and ranges of numbers, by tests.
-use Rattle.std.proofs.Common.{◌≡◌, ℕ, zero, suc, ◌+◌, ◌<◌, ◌≤◌, Bool, true, false, cond, eqb, List, [], ◌∷◌, length, refl, ap, sym, ◌∙◌, subst, ⊎_elim, arith}
-use Rattle.std.specs.Prelude.{Contains, filter}
+use Rattle.std.proofs.Common.{◌≡◌, ℕ, zero, suc, ◌+◌, ◌<◌, ◌≤◌, Bool, true, false, cond, eqb, List, [], ◌∷◌, length, refl, ap, sym, ◌∙◌, ⊎_elim, arith}
+use Rattle.std.specs.Prelude.{filter}
 use Rattle.std.specs.List.{list_all, range_with_len}
 use Rattle.std.proofs.lemmas.Bool.{and_from, and_parts, eqb-true, or_cases, or_left, or_right}
-use Rattle.std.proofs.lemmas.List.Folds.{Any-from_list_any}
 use Rattle.dd_machine.specs.Words.{has_number}
-
--- a number that a list has by the test is one of its items
-pub number_in : (xs : List ℕ) (n : ℕ) → has_number xs n ≡ true → Contains xs n
-number_in xs n is =
-    let any = Any-from_list_any (λ x. eqb x n) xs is in
-    let same : any.1 ≡ n = eqb-true any.1 n any.4 in
-    subst (Contains xs) same (any.0, any.2, any.3)
 
 -- a filter keeps the numbers that pass
 pub has_filter : (p : ℕ → Bool) (xs : List ℕ) (b : ℕ) → has_number xs b ≡ true → p b ≡ true → has_number (filter p xs) b ≡ true
@@ -52,3 +44,6 @@ all_places test a (suc n) all =
     let e : a + 0 ≡ a = omega arith in
     and_from (test a) (list_all test (range_with_len (a + 1) n)) (ap test (sym e) ∙ all 0 (omega arith))
     (all_places test (a + 1) n (λ i lt. let f : (a + 1) + i ≡ a + suc i = omega arith in ap test f ∙ all (suc i) (omega (arith, lt))))
+
+pub all_below : (test : ℕ → Bool) (n : ℕ) → ((i : ℕ) → i < n → test i ≡ true) → list_all test (range_with_len 0 n) ≡ true
+all_below test n each = all_places test 0 n (λ i lt. let e : 0 + i ≡ i = omega arith in ap test e ∙ each i lt)

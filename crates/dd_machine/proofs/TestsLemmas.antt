@@ -14,13 +14,13 @@ use Rattle.dd_machine.specs.Needed.{is_current, is_current_at, is_needed, is_rea
 use Rattle.dd_machine.specs.Sound.{IsSound}
 use Rattle.dd_machine.specs.SoundLimits.{IsOpen}
 use Rattle.dd_machine.specs.States.{Copy, State, at_copy}
-use Rattle.dd_machine.specs.Tests.{Has, is_any, is_here, is_in_state, is_leaving, is_out, is_running, versions_of}
-use Rattle.dd_meaning.specs.Versions.{Element}
+use Rattle.dd_machine.specs.Tests.{Has, is_any, is_done, is_here, is_in_state, is_leaving, is_out, is_running, versions_of}
+use Rattle.dd_blocks.specs.Elements.{Element}
 use Rattle.std.specs.List.{list_all, range_with_len}
 use Rattle.std.specs.Prelude.{is_some, not, slice_index}
 use Rattle.dd_machine.specs.Words.{IsOf, element, place, reads, size, writes}
 use Rattle.dd_machine.proofs.ChangesLemmas.{at_copy_tells}
-use Rattle.dd_machine.proofs.RangesLemmas.{all_at, all_places}
+use Rattle.dd_machine.proofs.RangesLemmas.{all_at, all_below}
 
 -- what the change of a copy leaves as it was
 pub same_at : {A : Type 0} (g : Option Copy → A) (copies : ℕ → ℕ → Option Copy) (space block : ℕ) (copy : Option Copy) → g copy ≡ g (copies space block)
@@ -190,6 +190,13 @@ current_version plan st s b i all lt =
     let e : 0 + i ≡ i = omega arith in
     eqb-true (version st s b i) (st.current (element plan b i)) (ap (is_current_at plan st s b) (sym e) ∙ all_at (is_current_at plan st s b) 0 (size plan b) i all lt)
 
+-- a task that passes is done
+pub done_is : (s : TaskState) → is_done s ≡ true → s ≡ Done
+done_is Waiting h = absurd cc
+done_is Held h = absurd cc
+done_is (Running w) h = absurd cc
+done_is Done h = refl
+
 -- what a task reads of a copy is current, place by place
 pub read_version : (plan : Plan) (st : State) (task b i : ℕ) → reads_current plan st task b ≡ true → i < size plan b → reads plan task (element plan b i) ≡ true → version st (place plan task) b i ≡ st.current (element plan b i)
 read_version plan st task b i all lt read =
@@ -200,9 +207,7 @@ read_version plan st task b i all lt read =
     (or_cases (not (reads plan task (element plan b i))) (is_current_at plan st (place plan task) b i) (ap (is_read_current plan st task b) (sym e) ∙ all_at (is_read_current plan st task b) 0 (size plan b) i all lt))
 
 pub all_read : (plan : Plan) (st : State) (task b : ℕ) → ((i : ℕ) → i < size plan b → reads plan task (element plan b i) ≡ true → version st (place plan task) b i ≡ st.current (element plan b i)) → reads_current plan st task b ≡ true
-all_read plan st task b each = all_places (is_read_current plan st task b) 0 (size plan b) (λ i lt.
-    let e : i ≡ 0 + i = omega arith in
-    ap (is_read_current plan st task b) (sym e) ∙ ⊎_elim
+all_read plan st task b each = all_below (is_read_current plan st task b) (size plan b) (λ i lt. ⊎_elim
     (λ (read : reads plan task (element plan b i) ≡ true).
     or_right (not (reads plan task (element plan b i))) (is_current_at plan st (place plan task) b i) (eq-eqb (version st (place plan task) b i) (st.current (element plan b i)) (each i lt read)))
     (λ (off : reads plan task (element plan b i) ≡ false). or_left (not (reads plan task (element plan b i))) (is_current_at plan st (place plan task) b i) (ap not off))

@@ -20,3 +20,4 @@ pub mod Closed
 pub mod Roomy
 pub mod Carriage
 pub mod GoesOn
+pub mod Journal

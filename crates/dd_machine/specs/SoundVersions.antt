@@ -2,7 +2,8 @@
 use Rattle.std.specs.Prelude.{◌≡◌, ◌≢◌, ◌⊎◌, ℕ, ◌≤◌, ◌<◌, true, false, length, Some}
 use Rattle.dd_blocks.specs.declared.plan.Plan.{Plan}
 use Rattle.dd_blocks.specs.Numbered.{task_row}
-use Rattle.dd_meaning.specs.Versions.{Element, needed_version}
+use Rattle.dd_meaning.specs.Versions.{needed_version}
+use Rattle.dd_blocks.specs.Elements.{Element}
 use Rattle.dd_machine.specs.declared.task_state.TaskState.TheVariants.{Done}
 use Rattle.dd_machine.specs.Legal.{AllDone}
 use Rattle.dd_machine.specs.Needed.{source, version}

@@ -1,13 +1,18 @@
 -- Worked examples of what a region moves: each computes. The first array has its home in the first space, the second in
 -- the second, and so on in turn.
-use Rattle.std.proofs.Common.{◌≡◌, pos, [], ◌∷◌, map, refl}
+use Rattle.std.proofs.Common.{◌≡◌, ℕ, pos, List, [], ◌∷◌, map, refl}
 use Rattle.dd_kernels.specs.declared.kernel.Kernel.TheVariants.{Add, Copy, Fill}
 use Rattle.dd_kernels.specs.declared.signature.Mode.TheVariants.{Read, Write, Both}
 use Rattle.dd_blocks.specs.declared.fill.Fill.TheVariants.{Const, Zeros}
 use Rattle.dd_blocks.specs.declared.plan.Plan.{Plan}
 use Rattle.dd_blocks.specs.declared.what.What.TheVariants.{Put, Print, Moved, MoveTo, Region}
-use Rattle.dd_meaning.specs.Moves.{moved, moves_in_array}
+use Rattle.dd_blocks.specs.PlanElements.{elements}
+use Rattle.dd_meaning.specs.Moves.{moved, moves_to, triples_of}
 use Rattle.dd_meaning.proofs.SmallPlans.{access, array_of, column_view, plan_of, row_view, span_of, task_of}
+
+-- how often the first region moves each element
+abbrev each_moved : Plan → List ℕ
+each_moved plan = map (triples_of plan 1 (moves_to plan 1)) (elements plan)
 
 -- one task writes an array of four, another reads two of its elements in the other space: these two move
 abbrev half_read : Plan
@@ -66,7 +71,7 @@ read_then_written = plan_of (array_of 1 2 (Const (pos 5)) 1 0 ∷ array_of 1 2 Z
     ∷ task_of Fill (pos 9) 2 (access Write (row_view 1 (span_of 1 (pos 1) 2)) ∷ []) ∷ [])
     (Put 1 ∷ Put 2 ∷ Region 1 ∷ Print 2 ∷ Print 1 ∷ Moved ∷ [])
 
-both_go_home : map (moves_in_array read_then_written 1) (1 ∷ 2 ∷ []) ≡ 2 ∷ 2 ∷ []
+both_go_home : each_moved read_then_written ≡ 1 ∷ 1 ∷ 1 ∷ 1 ∷ []
 both_go_home = refl
 
 -- an array is read in the other space as it is when the region begins
@@ -75,5 +80,5 @@ opening_read = plan_of (array_of 1 2 (Const (pos 5)) 1 0 ∷ array_of 1 2 Zeros 
     (task_of Copy (pos 0) 2 (access Write (row_view 2 (span_of 1 (pos 1) 2)) ∷ access Read (row_view 1 (span_of 1 (pos 1) 2)) ∷ []) ∷ [])
     (Put 1 ∷ Put 2 ∷ Region 1 ∷ Moved ∷ [])
 
-opening_moves : map (moves_in_array opening_read 1) (1 ∷ 2 ∷ []) ≡ 2 ∷ 0 ∷ []
+opening_moves : each_moved opening_read ≡ 1 ∷ 1 ∷ 0 ∷ 0 ∷ []
 opening_moves = refl

@@ -5,7 +5,7 @@ use Rattle.std.proofs.lemmas.List.{length-set, get_or-set_same, get_or-set_other
 use Rattle.std.proofs.lemmas.Bool.{cases_Bool}
 use Rattle.dd_blocks.specs.Numbered.{numbered}
 use Rattle.dd_blocks.specs.declared.access_row.AccessRow.{AccessRow}
-use Rattle.dd_blocks.specs.Conflicts.{writes}
+use Rattle.dd_blocks.specs.Elements.{writes}
 use Rattle.dd_kernels.proofs.ListsLemmas.{ap2}
 use Rattle.dd_views.specs.IndexList.{index_list}
 use Rattle.dd_meaning.specs.Steps.{put_at, stored_one}

@@ -5,3 +5,4 @@ pub mod Moves
 pub mod Text
 pub mod Values
 pub mod Written
+pub mod RegionRows

@@ -3,11 +3,11 @@
 use Rattle.std.specs.Prelude.{ℕ, Bool, ◌&&◌, ◌||◌, not, nat_eq, cond, List, ◌∷◌, length, count_by, sum_by}
 use Rattle.std.specs.List.{filter, list_any, range_with_len}
 use Rattle.dd_blocks.specs.declared.plan.Plan.{Plan}
-use Rattle.dd_blocks.specs.Charges.{block_with}
-use Rattle.dd_blocks.specs.Grids.{element_count}
+use Rattle.dd_blocks.specs.Elements.{Element, task_reads, task_writes}
 use Rattle.dd_blocks.specs.Homes.{home_in_region}
-use Rattle.dd_blocks.specs.Numbered.{array_row, proc_row, task_row}
-use Rattle.dd_meaning.specs.Versions.{Element, task_reads, task_writes, needed_version, opening_version, last_version, tasks_in}
+use Rattle.dd_blocks.specs.Numbered.{proc_row, task_row}
+use Rattle.dd_blocks.specs.PlanElements.{block_of_element, elements}
+use Rattle.dd_meaning.specs.Versions.{needed_version, opening_version, last_version, tasks_in}
 
 -- the space in which a task runs
 abbrev pub place_of : Plan → ℕ → ℕ
@@ -15,7 +15,7 @@ place_of plan t = (proc_row plan (task_row plan t).proc).space
 
 -- the home of an element when a region begins
 abbrev pub home_of : Plan → ℕ → Element → ℕ
-home_of plan region e = home_in_region plan region (block_with plan e.array e.pos)
+home_of plan region e = home_in_region plan region (block_of_element plan e)
 
 -- where a version is made: the space of its task where that is of the region, or else the home
 abbrev pub source_of : Plan → ℕ → Element → ℕ → ℕ
@@ -39,17 +39,16 @@ moves_to plan region e version space =
 abbrev pub versions_in : Plan → ℕ → Element → List ℕ
 versions_in plan region e = opening_version plan region e ∷ filter (λ t. task_writes (task_row plan t) e) (tasks_in plan region)
 
--- how often an element is moved: for each version, the spaces to which it has to be
-abbrev pub moves_of_version : Plan → ℕ → Element → ℕ → ℕ
-moves_of_version plan region e version = count_by (moves_to plan region e version) (range_with_len 1 (length plan.spaces))
+-- how many triples of an element, a version that is current in the region and a space pass a test
+abbrev pub triples_of_version : Plan → (ℕ → ℕ → Bool) → ℕ → ℕ
+triples_of_version plan test version = count_by (test version) (range_with_len 1 (length plan.spaces))
 
-abbrev pub moves_of : Plan → ℕ → Element → ℕ
-moves_of plan region e = sum_by (moves_of_version plan region e) (versions_in plan region e)
+abbrev pub triples_of : Plan → ℕ → (Element → ℕ → ℕ → Bool) → Element → ℕ
+triples_of plan region test e = sum_by (triples_of_version plan (test e)) (versions_in plan region e)
 
--- over all elements of all arrays
-abbrev pub moves_in_array : Plan → ℕ → ℕ → ℕ
-moves_in_array plan region n =
-    sum_by (λ p. moves_of plan region (record { array = n; pos = p })) (range_with_len 0 (element_count (array_row plan n).grid))
+abbrev pub count_triples : Plan → ℕ → (Element → ℕ → ℕ → Bool) → ℕ
+count_triples plan region test = sum_by (triples_of plan region test) (elements plan)
 
+-- how many elements the region moves
 abbrev pub moved : Plan → ℕ → ℕ
-moved plan region = sum_by (moves_in_array plan region) (range_with_len 1 (length plan.arrays))
+moved plan region = count_triples plan region (moves_to plan region)

@@ -6,7 +6,7 @@ use Rattle.dd_views.specs.IndexList.{index_list}
 use Rattle.dd_blocks.specs.declared.access_row.AccessRow.{AccessRow}
 use Rattle.dd_blocks.specs.declared.plan.Plan.{Plan}
 use Rattle.dd_blocks.specs.declared.task_row.TaskRow.{TaskRow}
-use Rattle.dd_blocks.specs.Conflicts.{writes}
+use Rattle.dd_blocks.specs.Elements.{writes}
 use Rattle.dd_blocks.specs.Tasks.{shapes_in}
 use Rattle.dd_meaning.specs.Worlds.{World, values_of, filled_world}
 

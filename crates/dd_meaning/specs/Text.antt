@@ -56,6 +56,10 @@ moved_above plan i = sum_by (moved plan) (range_with_len 1 (regions_above plan i
 abbrev pub row_text : Plan → ℕ → List ℕ
 row_text plan i = printed_by plan (world_at plan i) (moved_above plan i) (slice_index_or plan.statements i (record { line = 0; what = Put 0 })).what
 
--- the text of a script
+-- the text of a script where something follows each row, by how many rows stand above it
+abbrev pub text_with : Plan → (ℕ → List ℕ) → List ℕ
+text_with plan after = flat_map (λ i. row_text plan i ++ after i) (range_with_len 0 (length plan.statements))
+
+-- the text of a script: nothing follows
 abbrev pub text_of : Plan → List ℕ
-text_of plan = flat_map (row_text plan) (range_with_len 0 (length plan.statements))
+text_of plan = text_with plan (λ i. [])

@@ -1,33 +1,23 @@
 -- The versions of an element: the numbers of the tasks that write it, and 0 for what it holds at first.
-use Rattle.std.specs.Prelude.{ℕ, zero, suc, ◌-◌, Bool, ◌&&◌, nat_eq, nat_le, cond, List, length, count_by}
-use Rattle.std.specs.List.{filter, list_any, range_with_len}
-use Rattle.dd_views.specs.IndexList.{index_list}
-use Rattle.dd_blocks.specs.declared.access_row.AccessRow.{AccessRow}
+use Rattle.std.specs.Prelude.{ℕ, zero, suc, ◌-◌, Bool, true, ◌&&◌, nat_eq, nat_le, cond, List, length, count_by}
+use Rattle.std.specs.List.{filter, range_with_len}
 use Rattle.dd_blocks.specs.declared.plan.Plan.{Plan}
 use Rattle.dd_blocks.specs.declared.task_row.TaskRow.{TaskRow}
-use Rattle.dd_blocks.specs.Conflicts.{reads, writes}
+use Rattle.dd_blocks.specs.Elements.{Element, task_writes}
 use Rattle.dd_blocks.specs.Numbered.{task_row}
 
--- the element at a position of an array
-pub record Element : Type 0 where
-  pub array : ℕ
-  pub pos : ℕ
+-- the greatest number up to n that passes a test, or 0
+abbrev pub latest : (ℕ → Bool) → ℕ → ℕ
+latest passes zero = zero
+latest passes (suc n) = cond (passes (suc n)) (suc n) (latest passes n)
 
--- the access has the element
-abbrev pub has : AccessRow → Element → Bool
-has access e = nat_eq access.view.array e.array && list_any (λ p. nat_eq p e.pos) (index_list access.view)
+-- of the tasks up to n that pass a test, the greatest that writes the element, or 0
+abbrev pub last_writer_among : Plan → (ℕ → Bool) → Element → ℕ → ℕ
+last_writer_among plan passes e n = latest (λ t. passes t && task_writes (task_row plan t) e) n
 
--- the task reads the element, and it writes it
-abbrev pub task_reads : TaskRow → Element → Bool
-task_reads task e = list_any (λ (a : AccessRow). reads a.mode && has a e) task.accesses
-
-abbrev pub task_writes : TaskRow → Element → Bool
-task_writes task e = list_any (λ (a : AccessRow). writes a.mode && has a e) task.accesses
-
--- the greatest number of a task up to n that writes the element, or 0
+-- of all tasks up to n
 abbrev pub last_writer : Plan → Element → ℕ → ℕ
-last_writer plan e zero = zero
-last_writer plan e (suc n) = cond (task_writes (task_row plan (suc n)) e) (suc n) (last_writer plan e n)
+last_writer plan e n = last_writer_among plan (λ t. true) e n
 
 -- the version that a task finds
 abbrev pub needed_version : Plan → Element → ℕ → ℕ

@@ -12,5 +12,7 @@
 //! The value of one element after so many tasks (`specs/Values.antt`) is what the last of them that writes it stored
 //! (`specs/Written.antt`): `proofs/ValuesLemmas.antt` shows that it stays where no task writes the element.
 //!
-//! The crate holds these definitions and, in `proofs/`, laws and examples of them. It has no calls.
+//! The crate holds these definitions and, in `proofs/`, lemmas and examples of them. Its only calls are its [`laws`].
 #![tactic(auto)]
+
+pub mod laws;

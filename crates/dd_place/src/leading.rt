@@ -1,7 +1,7 @@
 //! The block by which a task finds its space.
 ghost use Rattle.std.specs.Prelude.{◌≡◌, ◌<◌, All, IfSome};
 ghost use Rattle.std.specs.Option.{option_or};
-ghost use Rattle.dd_blocks.specs.Conflicts.{writes};
+ghost use Rattle.dd_blocks.specs.Elements.{writes};
 ghost use Rattle.dd_blocks.specs.Charges.{block_with};
 ghost use Rattle.dd_blocks.specs.Grids.{element_count};
 ghost use Rattle.dd_blocks.specs.Numbered.{IsNumberIn, array_row};

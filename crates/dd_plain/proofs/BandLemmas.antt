@@ -15,7 +15,7 @@ use Rattle.dd_blocks.specs.declared.grid.Grid.{Grid}
 use Rattle.dd_blocks.specs.Grids.{element_count}
 use Rattle.dd_meaning.specs.Text.{printed_row, printed}
 use Rattle.dd_plain.specs.Bands.{band_of, column_part}
-use Rattle.dd_plain.proofs.MovesSumsLemmas.{range-add}
+use Rattle.dd_lists.proofs.SumsLemmas.{range-add}
 use Rattle.dd_plain.proofs.TaskLemmas.{same_map}
 
 -- pieces of one length

@@ -6,7 +6,7 @@ use Rattle.std.proofs.lemmas.List.{set-set, set-get_or, length-set}
 use Rattle.dd_kernels.specs.Lists.{element}
 use Rattle.dd_views.specs.IndexList.{index_list}
 use Rattle.dd_blocks.specs.declared.access_row.AccessRow.{AccessRow}
-use Rattle.dd_blocks.specs.Conflicts.{writes}
+use Rattle.dd_blocks.specs.Elements.{writes}
 use Rattle.dd_meaning.specs.Steps.{gathered, put_at, stored, stored_one}
 use Rattle.dd_meaning.specs.Worlds.{World, values_of}
 use Rattle.dd_plain.specs.Lending.{without, without_all, back_in, all_back_in}

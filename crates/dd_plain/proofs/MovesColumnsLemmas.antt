@@ -20,7 +20,7 @@ use Rattle.dd_plain.specs.MovesHomes.{home_by}
 use Rattle.dd_plain.specs.MovesMarks.{AreSameTo, mark_after, mark_of, moves_at}
 use Rattle.dd_plain.specs.MovesVisits.{ElementVisit, HaveHome, Visited, marks_after, moves_along, visit_at}
 use Rattle.dd_plain.proofs.MovesMarksLemmas.{same_home}
-use Rattle.dd_plain.proofs.MovesSumsLemmas.{range-add}
+use Rattle.dd_lists.proofs.SumsLemmas.{range-add}
 use Rattle.dd_plain.proofs.MovesVisitsLemmas.{moves_few, visited_append}
 use borrow.Rule.Slice.PartMut.{put_mid}
 

@@ -9,7 +9,7 @@ use Rattle.dd_plain.specs.declared.moves.mark.Visit.{Visit}
 use Rattle.dd_plain.specs.MovesMarks.{mark_after, moves_at}
 use Rattle.dd_plain.specs.MovesVisits.{ElementVisit, marks_after, moves_along}
 use Rattle.dd_plain.proofs.MovesMarksLemmas.{mark_again, moves_again}
-use Rattle.dd_plain.proofs.MovesSumsLemmas.{sum_by-add, sum_one, sum_same, sum_zero}
+use Rattle.dd_lists.proofs.SumsLemmas.{sum_by-add, sum_one, sum_same, sum_zero}
 
 -- the mark of the element with the number q after some visits
 abbrev pub element_mark : ℕ → List ElementVisit → ℕ → ℕ

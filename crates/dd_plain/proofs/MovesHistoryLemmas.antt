@@ -7,7 +7,7 @@ use Rattle.std.proofs.lemmas.List.Sums.{sum_by-cons}
 use Rattle.dd_plain.specs.declared.moves.mark.Visit.TheVariants.{Read, Leave}
 use Rattle.dd_plain.specs.MovesMarks.{mark_after, mark_of, moves_at}
 use Rattle.dd_plain.proofs.MovesMarksLemmas.{holds, holds_read, holds_written}
-use Rattle.dd_plain.proofs.MovesSumsLemmas.{sum_by-add, sum_one, sum_same, sum_zero}
+use Rattle.dd_lists.proofs.SumsLemmas.{sum_by-add, sum_one, sum_same, sum_zero}
 
 -- how tasks, by their numbers, use an element, the spaces in which they run, the element's home, and how many spaces there are
 pub record History : Type 0 where

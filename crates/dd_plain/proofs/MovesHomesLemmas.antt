@@ -9,7 +9,7 @@ use Rattle.dd_blocks.specs.Layout.{elements_in}
 use Rattle.dd_blocks.proofs.ArrayHomesLemmas.{moved_push}
 use Rattle.dd_plain.specs.declared.moves.Moves.{Moves}
 use Rattle.dd_plain.specs.MovesRest.{IsAtRest, NoneAsks}
-use Rattle.dd_plain.specs.RegionRows.{RunsAt}
+use Rattle.dd_meaning.specs.RegionRows.{RunsAt}
 
 -- after the next row
 pub moved_next : (arrays : ℕ) (rows : List StatementRow) (homes : List ℕ) (i : ℕ) (d : StatementRow) → i < length rows → HasArray arrays (get_or rows i d).what

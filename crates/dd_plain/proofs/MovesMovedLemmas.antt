@@ -22,19 +22,22 @@ use Rattle.dd_blocks.specs.Numbered.{IsNumberIn, array_row, no_array, task_row}
 use Rattle.dd_blocks.specs.Tasks.{shape_in}
 use Rattle.dd_blocks.specs.WellFormed.{IsWellFormed}
 use Rattle.dd_meaning.specs.Moves.{home_of, moved, moves_in_array, moves_of}
-use Rattle.dd_meaning.specs.Versions.{Element, tasks_in}
+use Rattle.dd_blocks.specs.Elements.{Element}
+use Rattle.dd_meaning.specs.Versions.{tasks_in}
 use Rattle.dd_plain.specs.declared.moves.mark.Visit.{Visit}
 use Rattle.dd_plain.specs.declared.moves.mark.Visit.TheVariants.{Read, Write, Leave}
 use Rattle.dd_plain.specs.MovesHomes.{IsViewIn}
 use Rattle.dd_plain.specs.MovesVisits.{ElementVisit, IsDone, IsWalkable, Visited, access_visits, is_of, marks_after, moves_along, region_visits, space_of, task_visits, visit_at, visits_by, visits_of}
 use Rattle.dd_plain.proofs.MovesElementLemmas.{element_mark, element_moves, get_or-marks_after, moves_along-sum}
-use Rattle.dd_plain.proofs.MovesLayoutLemmas.{elements_within, stands}
-use Rattle.dd_plain.proofs.MovesListsLemmas.{All-cond, All-flat_map, length-cond}
+use Rattle.dd_blocks.proofs.LayoutLemmas.{elements_within, stands}
+use Rattle.dd_lists.proofs.ListsLemmas.{All-cond, All-flat_map, length-cond}
 use Rattle.dd_plain.proofs.MovesPlanLemmas.{home_is, is_history, walkable}
 use Rattle.dd_plain.proofs.MovesRegionsLemmas.{region_mark, region_moves}
-use Rattle.dd_plain.proofs.MovesSumsLemmas.{sum_by-add, sum_range-add, sum_same, sum_shift}
-use Rattle.dd_plain.proofs.MovesTasksLemmas.{IsElementOf, positions_within}
-use Rattle.dd_plain.proofs.MovesVersionsLemmas.{element_moves_is, tasks_of_numbered}
+use Rattle.dd_lists.proofs.SumsLemmas.{sum_by-add, sum_range-add, sum_same, sum_shift}
+use Rattle.dd_plain.proofs.MovesTasksLemmas.{IsElementOf}
+use Rattle.dd_views.proofs.WithinLemmas.{positions_within}
+use Rattle.dd_plain.proofs.MovesVersionsLemmas.{element_moves_is}
+use Rattle.dd_meaning.proofs.RegionTasksLemmas.{tasks_of_numbered}
 use Rattle.dd_plain.proofs.MovesVisitsLemmas.{length-marks_after, visited_few}
 
 -- ---- all tasks of a region may be walked

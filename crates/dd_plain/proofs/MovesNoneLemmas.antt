@@ -10,10 +10,11 @@ use Rattle.dd_blocks.specs.Grids.{element_count}
 use Rattle.dd_blocks.specs.Numbered.{IsNumberIn, array_row}
 use Rattle.dd_blocks.specs.WellFormed.{IsWellFormed}
 use Rattle.dd_meaning.specs.Moves.{home_of, is_kept_in, is_read_in, moved, moves_in_array, moves_of, moves_of_version, moves_to, place_of, source_of, versions_in}
-use Rattle.dd_meaning.specs.Versions.{Element, tasks_in}
-use Rattle.dd_plain.proofs.MovesMovedLemmas.{region_numbers}
-use Rattle.dd_plain.proofs.MovesPlanLemmas.{home_within, place_within}
-use Rattle.dd_plain.proofs.MovesSumsLemmas.{sum_zero}
+use Rattle.dd_blocks.specs.Elements.{Element}
+use Rattle.dd_meaning.specs.Versions.{tasks_in}
+use Rattle.dd_meaning.proofs.RegionTasksLemmas.{region_numbers, place_within}
+use Rattle.dd_meaning.proofs.HomesLemmas.{home_within}
+use Rattle.dd_lists.proofs.SumsLemmas.{sum_zero}
 
 -- what holds of all numbers of a list holds of one that is found among them
 found_among : (P : ℕ → Type 0) (v : ℕ) (ts : List ℕ) → All P ts → list_any (λ t. eqb t v) ts ≡ true → P v

@@ -11,9 +11,9 @@ use Rattle.dd_blocks.specs.declared.plan.Plan.{Plan}
 use Rattle.dd_blocks.specs.declared.proc_row.ProcRow.{ProcRow}
 use Rattle.dd_blocks.specs.declared.statement_row.StatementRow.{StatementRow}
 use Rattle.dd_blocks.specs.declared.task_row.TaskRow.{TaskRow}
-use Rattle.dd_blocks.specs.ArrayHomes.{AreMovedTo}
+use Rattle.dd_blocks.specs.ArrayHomes.{AreMovedTo, HasArray}
 use Rattle.dd_blocks.specs.Charges.{block_with}
-use Rattle.dd_blocks.specs.Conflicts.{reads, writes}
+use Rattle.dd_blocks.specs.Elements.{reads, writes, Element, has}
 use Rattle.dd_blocks.specs.Grids.{block_of, element_count}
 use Rattle.dd_blocks.specs.Homes.{home_after, row_of_region, spaces_of}
 use Rattle.dd_blocks.specs.Numbered.{IsNumberIn, array_row, block_row, no_task, task_row}
@@ -21,12 +21,12 @@ use Rattle.dd_blocks.specs.WellFormed.{IsWellFormed, StatementNamesRows, TaskNam
 use Rattle.dd_blocks.proofs.GridLemmas.{block_within}
 use Rattle.dd_blocks.proofs.MovedSpacesLemmas.{IsSpaceOr, Names, home_by_last, last_move}
 use Rattle.dd_meaning.specs.Moves.{home_of, place_of}
-use Rattle.dd_meaning.specs.Versions.{Element, has}
-use Rattle.dd_blocks.specs.ArrayHomes.{HasArray}
 use Rattle.dd_plain.specs.MovesHomes.{AreHomes, home_by}
 use Rattle.dd_plain.specs.MovesVisits.{IsWalkable}
 use Rattle.dd_plain.proofs.MovesHistoryLemmas.{IsHistory}
-use Rattle.dd_plain.proofs.MovesLayoutLemmas.{HasBlock, grid_of, has_block, numbered-get}
+use Rattle.dd_blocks.proofs.LayoutLemmas.{HasBlock, has_block}
+use Rattle.dd_plain.proofs.MovesLayoutLemmas.{grid_of}
+use Rattle.dd_blocks.proofs.NumberedLemmas.{numbered-get}
 use Rattle.dd_plain.proofs.MovesRegionsLemmas.{history}
 
 -- ---- tasks

@@ -6,17 +6,16 @@ use Rattle.std.proofs.lemmas.List.Folds.{list_any-append}
 use Rattle.dd_blocks.specs.declared.access_row.AccessRow.{AccessRow}
 use Rattle.dd_blocks.specs.declared.plan.Plan.{Plan}
 use Rattle.dd_blocks.specs.declared.task_row.TaskRow.{TaskRow}
-use Rattle.dd_blocks.specs.Conflicts.{reads, writes}
+use Rattle.dd_blocks.specs.Elements.{reads, writes, Element, has, task_reads, task_writes}
 use Rattle.dd_blocks.specs.Layout.{IsLaidOut}
 use Rattle.dd_blocks.specs.Numbered.{task_row}
 use Rattle.dd_meaning.specs.Moves.{place_of}
-use Rattle.dd_meaning.specs.Versions.{Element, has, task_reads, task_writes}
 use Rattle.dd_plain.specs.declared.moves.mark.Visit.TheVariants.{Read, Write, Leave}
 use Rattle.dd_plain.specs.MovesMarks.{mark_after, moves_at}
 use Rattle.dd_plain.specs.MovesVisits.{ElementVisit, IsWalkable, region_visits, space_of, task_visits, visits_by}
 use Rattle.dd_plain.proofs.MovesElementLemmas.{element_mark, element_mark-append, element_moves, element_moves-append, mark_alike, moves_alike, visits_it}
 use Rattle.dd_plain.proofs.MovesHistoryLemmas.{History, next_mark, read_mark, read_moves, walk_moves}
-use Rattle.dd_plain.proofs.MovesListsLemmas.{list_any-flat_map, list_any_same, list_any_weaker, or_false}
+use Rattle.dd_lists.proofs.ListsLemmas.{list_any-flat_map, list_any_same, list_any_weaker, or_false}
 use Rattle.dd_plain.proofs.MovesMarksLemmas.{moves_again}
 use Rattle.dd_plain.proofs.MovesTasksLemmas.{IsElementOf, alike_tasks, it_by, mark_by, moves_by, uses_as}
 

@@ -21,14 +21,15 @@ use Rattle.dd_blocks.specs.Grids.{element_count}
 use Rattle.dd_blocks.specs.Layout.{IsLaidOut}
 use Rattle.dd_blocks.specs.Numbered.{IsNumberIn, array_row, no_array}
 use Rattle.dd_blocks.specs.Tasks.{shape_in}
-use Rattle.dd_meaning.specs.Versions.{Element, has}
+use Rattle.dd_blocks.specs.Elements.{Element, has}
 use Rattle.dd_plain.specs.declared.moves.mark.Visit.{Visit}
 use Rattle.dd_plain.specs.MovesHomes.{IsViewIn, home_by}
 use Rattle.dd_plain.specs.MovesMarks.{mark_after, moves_at}
 use Rattle.dd_plain.specs.MovesVisits.{ElementVisit, IsWalkable, access_visits, is_of, visit_at, visits_by, visits_of}
 use Rattle.dd_plain.proofs.MovesElementLemmas.{AreAlike, element_mark, element_moves, mark_alike, moves_alike, visits_it}
-use Rattle.dd_plain.proofs.MovesLayoutLemmas.{numbered-get, stands}
-use Rattle.dd_plain.proofs.MovesListsLemmas.{All-cond, All-flat_map, list_any-cond, list_any-flat_map, list_any-map, list_any_same}
+use Rattle.dd_blocks.proofs.NumberedLemmas.{numbered-get}
+use Rattle.dd_blocks.proofs.LayoutLemmas.{stands}
+use Rattle.dd_lists.proofs.ListsLemmas.{All-cond, All-flat_map, list_any-cond, list_any-flat_map, list_any-map, list_any_same}
 
 -- the positions of a view are of its array
 pub positions_within : (shape : Shape) (v : View) → IsViewOf shape v → All (λ p. p < shape.rows * shape.cols) (index_list v)

@@ -12,13 +12,15 @@ use Rattle.dd_blocks.specs.declared.task_row.TaskRow.{TaskRow}
 use Rattle.dd_blocks.specs.Lives.{tasks_of}
 use Rattle.dd_blocks.specs.Numbered.{no_task, task_row}
 use Rattle.dd_meaning.specs.Moves.{home_of, is_kept_in, is_read_in, moves_of, moves_of_version, moves_to, place_of, source_of, versions_in}
-use Rattle.dd_meaning.specs.Versions.{Element, last_writer, needed_version, opening_version, task_reads, task_writes, tasks_in, tasks_through}
-use Rattle.dd_plain.proofs.MovesHistoryLemmas.{History, IsHistory, is_read, is_wanted, latest, latest_le, missing, sent, walk_is, walk_moves}
-use Rattle.dd_plain.proofs.MovesLayoutLemmas.{numbered-get}
-use Rattle.dd_plain.proofs.MovesListsLemmas.{filter-map, list_any_same, sum_by-map}
+use Rattle.dd_blocks.specs.Elements.{Element, task_reads, task_writes}
+use Rattle.dd_meaning.specs.Versions.{last_writer, needed_version, opening_version, tasks_in, tasks_through, latest}
+use Rattle.dd_plain.proofs.MovesHistoryLemmas.{History, IsHistory, is_read, is_wanted, missing, sent, walk_is, walk_moves}
+use Rattle.dd_meaning.proofs.LatestLemmas.{latest_le}
+use Rattle.dd_blocks.proofs.NumberedLemmas.{numbered-get}
+use Rattle.dd_lists.proofs.ListsLemmas.{filter-map, list_any_same}
+use Rattle.dd_lists.proofs.SumsLemmas.{sum_by-map, sum_same, sum_zero}
 use Rattle.dd_plain.proofs.MovesMarksLemmas.{holds, holds_first}
 use Rattle.dd_plain.proofs.MovesRegionsLemmas.{history}
-use Rattle.dd_plain.proofs.MovesSumsLemmas.{sum_same, sum_zero}
 
 -- ---- the tasks of a region stand one after the other
 

@@ -8,7 +8,7 @@ use Rattle.dd_kernels.specs.declared.signature.Mode.{Mode}
 use Rattle.dd_kernels.specs.declared.signature.Mode.TheVariants.{Read, Write, Both}
 use Rattle.dd_kernels.specs.Signatures.{modes_of}
 use Rattle.dd_kernels.specs.Table.{results, into_one, into_first, into_first_of_three, into_second, exchanged}
-use Rattle.dd_blocks.specs.Conflicts.{writes}
+use Rattle.dd_blocks.specs.Elements.{writes}
 use Rattle.dd_blocks.specs.Tasks.{MayBe}
 
 -- a list that is only read is the same after as before

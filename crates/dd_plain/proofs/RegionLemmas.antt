@@ -25,11 +25,11 @@ use Rattle.dd_meaning.specs.Text.{regions_above}
 use Rattle.dd_meaning.specs.Versions.{tasks_through}
 use Rattle.dd_meaning.specs.Worlds.{World, filled, filled_world}
 use Rattle.dd_blocks.specs.ArrayHomes.{AreMovedTo}
-use Rattle.dd_plain.specs.RegionRows.{RunsAt, next_region}
+use Rattle.dd_meaning.specs.RegionRows.{RunsAt, next_region}
 use Rattle.dd_plain.specs.Sizes.{CanRun, HasSizes}
 use Rattle.dd_kernels.proofs.ListsLemmas.{ap2}
 use Rattle.dd_views.proofs.ListsLemmas.{range_with_len_more}
-use Rattle.dd_plain.proofs.MovesLayoutLemmas.{numbered-get}
+use Rattle.dd_blocks.proofs.NumberedLemmas.{numbered-get}
 
 -- the row of a number stands one place before it
 pub row_at : {R : Type 0} (none d : R) (rows : List R) (n : ℕ) → IsNumberIn rows n → get_or rows (n - 1) d ≡ numbered none rows n

@@ -15,7 +15,7 @@ use Rattle.dd_views.specs.IndexList.{index_list}
 use Rattle.dd_blocks.specs.declared.access_row.AccessRow.{AccessRow}
 use Rattle.dd_blocks.specs.declared.array_row.ArrayRow.{ArrayRow}
 use Rattle.dd_blocks.specs.declared.task_row.TaskRow.{TaskRow}
-use Rattle.dd_blocks.specs.Conflicts.{writes}
+use Rattle.dd_blocks.specs.Elements.{writes}
 use Rattle.dd_blocks.specs.Grids.{element_count}
 use Rattle.dd_blocks.specs.Numbered.{numbered, no_array}
 use Rattle.dd_blocks.specs.Tasks.{MeetsKernel, kernel_shape, shape_in, shapes_in}

@@ -24,7 +24,7 @@ use Rattle.dd_views.proofs.ViewLemmas.{length_view, view_few}
 use Rattle.dd_blocks.specs.declared.access_row.AccessRow.{AccessRow}
 use Rattle.dd_blocks.specs.Tasks.{kernel_shape}
 use Rattle.dd_meaning.specs.Worlds.{values_of}
-use Rattle.dd_plain.proofs.MovesSumsLemmas.{range-add}
+use Rattle.dd_lists.proofs.SumsLemmas.{range-add}
 use Rattle.dd_plain.specs.Lending.{IsHeld, is_lent, is_run, keeps_all, uses_of}
 use Rattle.dd_plain.specs.Lists.{lists_of}
 use Rattle.dd_plain.proofs.LendingLemmas.{AreApart, AreAllApart}

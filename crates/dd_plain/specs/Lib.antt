@@ -6,7 +6,6 @@ pub mod Runs
 pub mod MovesMarks
 pub mod MovesHomes
 pub mod MovesVisits
-pub mod RegionRows
 pub mod MovesRest
 pub mod Rows
 pub mod Bands

@@ -8,7 +8,7 @@ use Rattle.dd_blocks.specs.declared.plan.Plan.{Plan}
 use Rattle.dd_blocks.specs.Charges.{block_with}
 use Rattle.dd_blocks.specs.Numbered.{IsNumberIn, array_row, block_row}
 use Rattle.dd_blocks.specs.Tasks.{shape_in}
-use Rattle.dd_meaning.specs.Versions.{Element}
+use Rattle.dd_blocks.specs.Elements.{Element}
 
 -- there is a number for each array, none of them above the number of spaces
 pub record AreHomes (plan : Plan) (homes : List ℕ) : Type 0 where

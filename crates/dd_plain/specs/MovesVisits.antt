@@ -7,7 +7,7 @@ use Rattle.dd_views.specs.IndexList.{index_list}
 use Rattle.dd_blocks.specs.declared.access_row.AccessRow.{AccessRow}
 use Rattle.dd_blocks.specs.declared.plan.Plan.{Plan}
 use Rattle.dd_blocks.specs.declared.task_row.TaskRow.{TaskRow}
-use Rattle.dd_blocks.specs.Conflicts.{reads, writes}
+use Rattle.dd_blocks.specs.Elements.{reads, writes}
 use Rattle.dd_blocks.specs.Layout.{elements_in}
 use Rattle.dd_blocks.specs.Numbered.{IsNumberIn, array_row, proc_row}
 use Rattle.dd_meaning.specs.Moves.{moved}

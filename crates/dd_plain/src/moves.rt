@@ -38,7 +38,7 @@ pub(crate) struct Moves {
 
 impl Moves {
     ghost use Rattle.dd_plain.specs.MovesRest.{IsAtRest};
-    ghost use Rattle.dd_plain.specs.RegionRows.{RunsAt, next_region};
+    ghost use Rattle.dd_meaning.specs.RegionRows.{RunsAt, next_region};
 
     /// Marks for the elements of a Plan, above its first row.
     pub(crate) fn new(alloc: Global, plan: &Plan) -> Result<Moves, AllocError>

@@ -6,7 +6,7 @@ ghost use Rattle.dd_causes.specs.Appended.{AppendsFront};
 ghost use Rattle.dd_blocks.specs.WellFormed.{IsWellFormed, StatementNamesRows};
 ghost use Rattle.dd_meaning.specs.Text.{printed_by, row_text, text_of};
 ghost use Rattle.dd_plain.specs.Lists.{lists_of};
-ghost use Rattle.dd_plain.specs.RegionRows.{RunsAt};
+ghost use Rattle.dd_meaning.specs.RegionRows.{RunsAt};
 ghost use Rattle.dd_plain.specs.Rows.{HasRun};
 ghost use Rattle.dd_plain.specs.Sizes.{HasSizes};
 

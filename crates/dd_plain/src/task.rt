@@ -2,7 +2,7 @@
 ghost use Rattle.std.specs.Prelude.{◌≡◌, false, length, map, OnOk, IfOk, All};
 ghost use Rattle.std.specs.List.{fold};
 ghost use Rattle.dd_views.specs.IndexList.{index_list};
-ghost use Rattle.dd_blocks.specs.Conflicts.{writes};
+ghost use Rattle.dd_blocks.specs.Elements.{writes};
 ghost use Rattle.dd_meaning.specs.Steps.{step};
 ghost use Rattle.dd_plain.specs.Lending.{AreHeld, AreThere, all_back_in, back_in, held, is_lent, without, without_all};
 ghost use Rattle.dd_plain.specs.Lists.{lists_of};

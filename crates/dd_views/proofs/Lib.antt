@@ -7,6 +7,7 @@ pub mod ColumnsLemmas
 pub mod ViewLemmas
 pub mod WayLemmas
 pub mod ElementsLemmas
+pub mod WithinLemmas
 pub mod OnceLemmas
 pub mod PositionsLemmas
 pub mod WalkLemmas

@@ -7,7 +7,8 @@ use Rattle.dd_plain.specs.RegionRows.{next_region}
 use Rattle.dd_plain.proofs.MovesHomesLemmas.{rest_past}
 use Rattle.dd_plain.proofs.MovesMovedLemmas.{is_done, region_few, tasks_walkable}
 use Rattle.dd_plain.proofs.MovesNoneLemmas.{nothing_moves}
-use Rattle.dd_plain.proofs.MovesPlanLemmas.{are_homes, rows_above_name}
+use Rattle.dd_plain.proofs.MovesPlanLemmas.{are_homes}
+use Rattle.dd_meaning.proofs.HomesLemmas.{rows_above_name}
 use Rattle.dd_plain.proofs.RegionLemmas.{homes_of_region}
 use Rattle.dd_plain.proofs.StepLemmas.{items_written}
 use Rattle.dd_plain.proofs.moves.Moves.in_region.Goals as goal

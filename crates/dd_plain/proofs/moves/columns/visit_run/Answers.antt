@@ -1,7 +1,7 @@
 use Rattle.std.proofs.Common.{◌∙◌, ap, arith}
 use Rattle.dd_blocks.specs.declared.array_row.ArrayRow.{ArrayRow}
 use Rattle.dd_plain.proofs.MovesColumnsLemmas.{visited_piece}
-use Rattle.dd_plain.proofs.MovesLayoutLemmas.{elements_within}
+use Rattle.dd_blocks.proofs.LayoutLemmas.{elements_within}
 use Rattle.dd_plain.proofs.moves.columns.visit_run.Goals as goal
 
 pub returns : goal.returns

@@ -1,8 +1,9 @@
--- Sums over numbers that stand one after the other.
-use Rattle.std.proofs.Common.{◌≡◌, ◌≢◌, ℕ, zero, suc, ◌+◌, ◌<◌, ◌≤◌, Bool, true, false, eqb, cond, List, [], ◌∷◌, ◌++◌, refl, sym, ap, ◌∙◌, arith, ⊎_elim, add-zero, zero-add}
-use Rattle.std.specs.List.{range_with_len, sum_by}
+-- Sums over lists, and over numbers that stand one after the other.
+use Rattle.std.proofs.Common.{◌≡◌, ◌≢◌, ℕ, zero, suc, ◌+◌, ◌<◌, ◌≤◌, Bool, true, false, eqb, cond, List, [], ◌∷◌, ◌++◌, map, refl, sym, ap, ◌∙◌, arith, ⊎_elim, add-zero, zero-add}
+use Rattle.std.specs.List.{All, flat_map, range_with_len, sum_by}
 use Rattle.std.proofs.lemmas.Bool.{cases_eq}
 use Rattle.std.proofs.lemmas.Bool.Decides.{nat_tests}
+use Rattle.std.proofs.lemmas.List.Elements.{All-head, All-tail}
 use Rattle.std.proofs.lemmas.List.Sums.{sum_by-append, sum_by-cons}
 
 pub sum_by-add : {X : Type 0} (f g : X → ℕ) (xs : List X) → sum_by (λ x. f x + g x) xs ≡ sum_by f xs + sum_by g xs
@@ -62,3 +63,34 @@ sum_shift f a b (suc n) =
     let e : a + b + 1 ≡ a + (b + 1) = omega arith in
     let more : sum_by f (range_with_len (a + b + 1) n) ≡ sum_by g (range_with_len (b + 1) n) = ap (λ (c : ℕ). sum_by f (range_with_len c n)) e ∙ sum_shift f a (b + 1) n in
     omega (arith, sum_by-cons f (a + b) (range_with_len (a + b + 1) n), sum_by-cons g b (range_with_len (b + 1) n), more)
+
+pub sum_by-flat_map : {X Y : Type 0} (g : Y → ℕ) (f : X → List Y) (xs : List X) → sum_by g (flat_map f xs) ≡ sum_by (λ x. sum_by g (f x)) xs
+sum_by-flat_map g f [] = refl
+sum_by-flat_map {X = X} g f (x ∷ xs) =
+    let parts : X → ℕ = λ y. sum_by g (f y) in
+    omega (arith, sum_by-append g (f x) (flat_map f xs), sum_by-cons parts x xs, sum_by-flat_map g f xs)
+
+-- what is the same at each element has the same sum, and what is nothing at each has none
+pub sum_by_same : {X : Type 0} (f g : X → ℕ) (xs : List X) → All (λ x. f x ≡ g x) xs → sum_by f xs ≡ sum_by g xs
+sum_by_same f g [] same = refl
+sum_by_same {X = X} f g (x ∷ xs) same =
+    let P : X → Type 0 = λ y. f y ≡ g y in
+    omega (arith, sum_by-cons f x xs, sum_by-cons g x xs, All-head P x xs same, sum_by_same f g xs (All-tail P x xs same))
+
+pub sum_by_zero : {X : Type 0} (f : X → ℕ) (xs : List X) → All (λ x. f x ≡ 0) xs → sum_by f xs ≡ 0
+sum_by_zero f [] none = refl
+sum_by_zero {X = X} f (x ∷ xs) none =
+    let P : X → Type 0 = λ y. f y ≡ 0 in
+    omega (arith, sum_by-cons f x xs, All-head P x xs none, sum_by_zero f xs (All-tail P x xs none))
+
+pub sum_by-map : {X Y : Type 0} (g : Y → ℕ) (f : X → Y) (xs : List X) → sum_by g (map f xs) ≡ sum_by (λ x. g (f x)) xs
+sum_by-map g f [] = refl
+sum_by-map {X = X} g f (x ∷ xs) =
+    let both : X → ℕ = λ y. g (f y) in
+    omega (arith, sum_by-cons g (f x) (map f xs), sum_by-cons both x xs, sum_by-map g f xs)
+
+pub map-shift : (a b n : ℕ) → map (λ p. a + p) (range_with_len b n) ≡ range_with_len (a + b) n
+map-shift a b zero = refl
+map-shift a b (suc n) =
+    let e : a + (b + 1) ≡ a + b + 1 = omega arith in
+    ap (λ (xs : List ℕ). (a + b) ∷ xs) (map-shift a (b + 1) n ∙ ap (λ (c : ℕ). range_with_len c n) e)
