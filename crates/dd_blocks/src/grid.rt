@@ -103,6 +103,3 @@ impl Grid {
         piece_len(self.rows, self.brows, block % self.block_rows())
     }
 }
-
-#[cfg(test)]
-mod tests;

@@ -55,6 +55,3 @@ pub use space_row::SpaceRow;
 pub use statement_row::StatementRow;
 pub use task_row::TaskRow;
 pub use what::What;
-
-#[cfg(test)]
-mod tests;

@@ -52,6 +52,3 @@ fn home_after(rows: &[StatementRow], array: u32, before: u32) -> u32
     }
     home
 }
-
-#[cfg(test)]
-mod tests;

@@ -62,6 +62,3 @@ pub fn accept(alloc: Global, text: &[u8]) -> Result<Plan, AcceptFault>
     settle(alloc, &mut draft)?;
     Ok(draft.plan)
 }
-
-#[cfg(test)]
-mod tests;

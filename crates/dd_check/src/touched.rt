@@ -146,6 +146,3 @@ fn number_of_block(array: &ArrayRow, i: u32, j: u32) -> u32
     let block_rows = array.grid.rows.div_ceil(array.grid.brows);
     array.first_block + (j * block_rows + i)
 }
-
-#[cfg(test)]
-mod tests;

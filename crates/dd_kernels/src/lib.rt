@@ -32,8 +32,6 @@ mod shape;
 mod shape_rule;
 mod signature;
 mod stencil;
-#[cfg(test)]
-mod tests;
 mod three_lists;
 mod total;
 mod two_lists;

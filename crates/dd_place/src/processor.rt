@@ -95,6 +95,3 @@ fn home_by(plan: &Plan, homes: &[u32], block: u32) -> u32
     let moved_to = homes[found.array as usize - 1];
     if moved_to == 0 { found.home } else { moved_to }
 }
-
-#[cfg(test)]
-mod tests;

@@ -76,6 +76,3 @@ pub fn statement_of(
     }
     Ok(Some(statement_by(alloc, line, tokens)?))
 }
-
-#[cfg(test)]
-mod tests;

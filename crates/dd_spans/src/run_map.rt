@@ -109,6 +109,3 @@ impl RunMap {
         self.spare -= 2;
     }
 }
-
-#[cfg(test)]
-mod tests;

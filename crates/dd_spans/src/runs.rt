@@ -127,6 +127,3 @@ impl Runs {
         search_from(&self.numbers, from)
     }
 }
-
-#[cfg(test)]
-mod tests;

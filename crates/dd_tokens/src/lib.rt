@@ -29,6 +29,3 @@ pub use cut::tokens;
 pub use fault::LineFault;
 pub use lexeme::{number, text};
 pub use token::{Token, TokenKind};
-
-#[cfg(test)]
-mod tests;
