@@ -10,7 +10,7 @@ use Rattle.dd_blocks.specs.Limits.{blocks_limit}
 use Rattle.dd_blocks.specs.Numbered.{IsNumberIn, array_row}
 use Rattle.dd_blocks.specs.WellFormed.{IsWellFormed}
 use Rattle.dd_machine.specs.Owed.{blocks_by_rows}
-use Rattle.dd_owed.proofs.LayoutLemmas.{blocks_within, grid_stands, has_block, stands}
+use Rattle.dd_blocks.proofs.LayoutLemmas.{blocks_within, grid_stands, has_block, stands}
 use Rattle.dd_blocks.proofs.PiecesLemmas.{piece_within}
 use Rattle.dd_owed.proofs.PiecesLemmas.{get_piece, get_range, get_range_past, in_piece}
 

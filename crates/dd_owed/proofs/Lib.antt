@@ -1,4 +1,3 @@
-mod LayoutLemmas
 mod PiecesLemmas
 mod BlocksLemmas
 mod RowsLemmas
