@@ -14,7 +14,7 @@ use Rattle.dd_blocks.specs.declared.access_row.AccessRow.{AccessRow}
 use Rattle.dd_blocks.specs.declared.plan.Plan.{Plan}
 use Rattle.dd_blocks.specs.declared.task_row.TaskRow.{TaskRow}
 use Rattle.dd_blocks.specs.Charges.{AreTouched, Touches, block_with, charge_of}
-use Rattle.dd_blocks.specs.Conflicts.{HasElement}
+use Rattle.dd_blocks.specs.Elements.{HasElement}
 use Rattle.dd_place.proofs.SomeLemmas.{some_placed}
 use Rattle.dd_script.specs.declared.piece.Piece.{Piece}
 use Rattle.dd_script.specs.declared.statement.Statement.TheVariants.{Task}
