@@ -5,8 +5,8 @@ use Rattle.std.specs.List.{list_any}
 use Rattle.std.proofs.lemmas.Bool.{cases_Bool}
 use Rattle.dd_views.specs.IndexList.{index_list}
 use Rattle.dd_blocks.specs.declared.access_row.AccessRow.{AccessRow}
-use Rattle.dd_blocks.specs.Conflicts.{writes}
-use Rattle.dd_meaning.specs.Versions.{Element, has}
+use Rattle.dd_blocks.specs.Elements.{writes}
+use Rattle.dd_blocks.specs.Elements.{Element, has}
 use Rattle.dd_meaning.specs.Written.{HaveLengths, put_value, value_stored, value_stored_one}
 
 -- what stood at a position counts for nothing once something was put there

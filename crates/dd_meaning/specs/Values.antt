@@ -3,7 +3,7 @@ use Rattle.std.specs.Prelude.{ℕ, ◌-◌, ℤ, pos, List, map, slice_index_or}
 use Rattle.dd_blocks.specs.declared.plan.Plan.{Plan}
 use Rattle.dd_blocks.specs.Numbered.{task_row}
 use Rattle.dd_meaning.specs.Steps.{computed, gathered, world_after}
-use Rattle.dd_meaning.specs.Versions.{Element}
+use Rattle.dd_blocks.specs.Elements.{Element}
 use Rattle.dd_meaning.specs.Worlds.{World, values_of}
 
 -- the value of an element in a world

@@ -2,8 +2,8 @@
 use Rattle.std.specs.Prelude.{◌≡◌, ℕ, ◌<◌, ◌≤◌, ℤ, ◌&&◌, nat_eq, cond, List, [], ◌∷◌, length}
 use Rattle.dd_views.specs.IndexList.{index_list}
 use Rattle.dd_blocks.specs.declared.access_row.AccessRow.{AccessRow}
-use Rattle.dd_blocks.specs.Conflicts.{writes}
-use Rattle.dd_meaning.specs.Versions.{Element}
+use Rattle.dd_blocks.specs.Elements.{writes}
+use Rattle.dd_blocks.specs.Elements.{Element}
 use Rattle.dd_meaning.specs.Worlds.{World, values_of}
 
 -- the value at a position after values were put at a list of positions: the last one that was put there
