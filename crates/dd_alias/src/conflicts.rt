@@ -63,6 +63,3 @@ fn has_write(a: Mode, b: Mode) -> bool
 {
     a != Mode::Read || b != Mode::Read
 }
-
-#[cfg(test)]
-mod tests;

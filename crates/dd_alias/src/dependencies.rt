@@ -38,6 +38,3 @@ fn deps_at(alloc: Global, tasks: &[TaskRow], index: usize) -> Result<Items<u32>,
     }
     Ok(Items::of(places))
 }
-
-#[cfg(test)]
-mod tests;

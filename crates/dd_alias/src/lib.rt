@@ -47,8 +47,6 @@ mod meeting;
 mod pattern;
 mod place;
 mod run;
-#[cfg(test)]
-mod samples;
 mod shared;
 
 pub use conflicts::conflict;

@@ -181,6 +181,3 @@ fn meet_at(a: &Band, b: &Band, rows: &Run, turn: u64) -> bool
     let of_b = b.rows_at(rows, turn);
     rows.has_between(of_a.low.max(of_b.low), of_a.high.min(of_b.high))
 }
-
-#[cfg(test)]
-mod tests;

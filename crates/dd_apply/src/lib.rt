@@ -15,8 +15,6 @@
 
 mod run;
 mod slices;
-#[cfg(test)]
-mod tests;
 
 pub use run::apply;
 pub use slices::{apply_to_one, apply_to_three, apply_to_two};

@@ -30,6 +30,7 @@ mod block_row;
 mod fill;
 mod grid;
 pub mod laws;
+pub mod limits;
 mod name;
 mod piece;
 mod plan;
@@ -55,6 +56,3 @@ pub use space_row::SpaceRow;
 pub use statement_row::StatementRow;
 pub use task_row::TaskRow;
 pub use what::What;
-
-#[cfg(test)]
-mod tests;

@@ -9,7 +9,7 @@ ghost use Rattle.dd_blocks.specs.Grids.{block_cols, block_rows};
 ghost use Rattle.dd_blocks.specs.Numbered.{IsNumberIn, array_row};
 ghost use Rattle.dd_blocks.specs.Tasks.{shape_in};
 ghost use Rattle.dd_blocks.specs.WellFormed.{HasSmallEdges};
-ghost use Rattle.dd_place.specs.Premises.{HasBlocks, IsOfPlan};
+ghost use Rattle.dd_blocks.specs.OfPlan.{HasBlocks, IsOfPlan};
 ghost use Rattle.dd_check.specs.Touching.{Adds, AreOf, Between, HasSmallNumbers, HoldsSome, IsBlockAt, IsTouchedBy, number_of_block};
 
 use crate::pieces::slice_from;
@@ -146,6 +146,3 @@ fn number_of_block(array: &ArrayRow, i: u32, j: u32) -> u32
     let block_rows = array.grid.rows.div_ceil(array.grid.brows);
     array.first_block + (j * block_rows + i)
 }
-
-#[cfg(test)]
-mod tests;

@@ -27,6 +27,3 @@ pub fn plain_on_one(k: Kernel, scalar: i64, shape: Shape, x: &mut [i64])
         _ => unreachable!(),
     }
 }
-
-#[cfg(test)]
-mod tests;

@@ -142,6 +142,3 @@ fn weigh(above: i64, below: i64, left: i64, right: i64, here: i64) -> i64
         .wrapping_add(right);
     neighbours.wrapping_sub(4i64.wrapping_mul(here))
 }
-
-#[cfg(test)]
-mod tests;

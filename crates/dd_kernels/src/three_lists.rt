@@ -31,6 +31,3 @@ pub fn plain_on_three(
         _ => unreachable!(),
     }
 }
-
-#[cfg(test)]
-mod tests;

@@ -33,6 +33,3 @@ pub fn plain_on_two(k: Kernel, scalar: i64, shapes: (Shape, Shape), x: &mut [i64
         _ => unreachable!(),
     }
 }
-
-#[cfg(test)]
-mod tests;

@@ -25,7 +25,5 @@ mod reflection;
 mod run;
 mod solution;
 mod square;
-#[cfg(test)]
-mod tests;
 
 pub use run::{packed, packed_on_two};

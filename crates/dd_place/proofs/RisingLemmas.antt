@@ -1,9 +1,7 @@
 -- Rows that run the regions one after the other.
-use Rattle.std.proofs.Common.{◌≡◌, ℕ, zero, suc, ◌+◌, ◌<◌, ◌≤◌, List, [], ◌∷◌, length, get_or, take, Option, None, Some, refl, sym, arith}
+use Rattle.std.proofs.Common.{◌≡◌, ℕ, zero, suc, ◌+◌, ◌<◌, ◌≤◌, List, [], ◌∷◌, length, get_or, Option, None, Some, refl, arith}
 use Rattle.std.specs.List.{All, AllPairs, cons_option, range_with_len}
-use Rattle.std.proofs.lemmas.List.Elements.{All-cons, All-nil, All-push, All-weaker}
-use Rattle.std.proofs.lemmas.List.{take_more}
-use Rattle.std.proofs.lemmas.List.Quantifiers.{all_pairs_push}
+use Rattle.std.proofs.lemmas.List.Elements.{All-cons, All-nil, All-weaker}
 use Rattle.dd_blocks.specs.declared.statement_row.StatementRow.{StatementRow}
 use Rattle.dd_blocks.specs.Lives.{region_run, regions_run}
 use Rattle.dd_place.specs.Premises.{IsBelow}
@@ -48,24 +46,3 @@ rise_first a (suc n) row rows (Some r) rest is same =
 pub rise : (rows : List StatementRow) (a n : ℕ) → regions_run rows ≡ range_with_len a n → Rise a rows
 rise [] a n same = record { least = All-nil (AtLeast a); pairs = λ i j d lt within. absurd (omega arith) }
 rise (row ∷ rows) a n same = rise_first a n row rows (region_run row.what) (rise rows) refl same
-
--- The same from the front on: the regions so far go up to a number.
-
-abbrev pub AtMost : ℕ → StatementRow → Type 0
-AtMost a row = (b : ℕ) → region_run row.what ≡ Some b → b ≤ a
-
-pub record RiseTo (a : ℕ) (rows : List StatementRow) : Type 0 where
-  pub most : All (AtMost a) rows
-  pub pairs : AllPairs IsBelow rows
-
-pub none_more : (a : ℕ) (rows : List StatementRow) (i : ℕ) (row : StatementRow) → i < length rows → row ≡ get_or rows i row → region_run row.what ≡ None → RiseTo a (take i rows) → RiseTo a (take (i + 1) rows)
-none_more a rows i row lt here none so_far = rw (take_more rows i row lt, sym here) (record {
-  most = All-push (AtMost a) (take i rows) row so_far.most (λ b is. absurd (cc));
-  pairs = all_pairs_push IsBelow (take i rows) row so_far.pairs (λ k d within p q is_p is_q. absurd (cc));
-})
-
-pub some_more : (a run : ℕ) (rows : List StatementRow) (i : ℕ) (row : StatementRow) → i < length rows → row ≡ get_or rows i row → region_run row.what ≡ Some run → a < run → RiseTo a (take i rows) → RiseTo run (take (i + 1) rows)
-some_more a run rows i row lt here some higher so_far = rw (take_more rows i row lt, sym here) (record {
-  most = All-push (AtMost run) (take i rows) row (All-weaker (AtMost a) (AtMost run) (λ r le b is. omega (arith, le b is)) (take i rows) so_far.most) (λ b is. let e : b ≡ run = cc in omega arith);
-  pairs = all_pairs_push IsBelow (take i rows) row so_far.pairs (λ k d within p q is_p is_q. let e : q ≡ run = cc in omega (arith, so_far.most k d within p is_p));
-})

@@ -6,7 +6,8 @@ ghost use Rattle.dd_blocks.specs.Numbered.{IsNumberIn};
 ghost use Rattle.dd_blocks.specs.WellFormed.{NamesRows};
 ghost use Rattle.dd_place.specs.Leading.{space_for};
 ghost use Rattle.dd_place.specs.Placement.{IsPlaced};
-ghost use Rattle.dd_place.specs.Premises.{CanPlace, IsOfPlan};
+ghost use Rattle.dd_blocks.specs.OfPlan.{IsOfPlan};
+ghost use Rattle.dd_place.specs.Premises.{CanPlace};
 
 use crate::leading::leading_block;
 use crate::load::least_loaded_for;
@@ -95,6 +96,3 @@ fn home_by(plan: &Plan, homes: &[u32], block: u32) -> u32
     let moved_to = homes[found.array as usize - 1];
     if moved_to == 0 { found.home } else { moved_to }
 }
-
-#[cfg(test)]
-mod tests;

@@ -111,6 +111,3 @@ pub(crate) fn print_moved<O: Sink>(
     write_all(out, line)?;
     Ok(())
 }
-
-#[cfg(test)]
-mod tests;

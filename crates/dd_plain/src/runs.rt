@@ -54,6 +54,3 @@ pub(crate) fn beside(accesses: &[AccessRow]) -> Option<(Run, Run)>
         None
     }
 }
-
-#[cfg(test)]
-mod tests;

@@ -186,6 +186,3 @@ fn writes(mode: Mode) -> bool
         Mode::Write | Mode::Both => true,
     }
 }
-
-#[cfg(test)]
-mod tests;

@@ -77,6 +77,3 @@ fn scattered_at(seed: i64, p: u64) -> i64
         .wrapping_add(1_442_695_040_888_963_407);
     (next >> 33) as i64
 }
-
-#[cfg(test)]
-mod tests;

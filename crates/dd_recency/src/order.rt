@@ -151,6 +151,3 @@ impl Order {
             .find(|block| !pins.is_pinned(*block))
     }
 }
-
-#[cfg(test)]
-mod tests;

@@ -1,6 +1,7 @@
 -- What a run read and wrote, by the status that it ends with.
 use Rattle.std.specs.Prelude.{◌≡◌, ℕ, ◌+◌, ◌≤◌, List, [], length, Option, ◌⊎◌}
 use Rattle.std.specs.Io.KnownBytes.{Appends}
+use Rattle.dd_causes.specs.Counts.{Rose}
 use Rattle.dd_causes.specs.Appended.{AppendsFront}
 use Rattle.dd_io.specs.Taken.{ReadsToEnd, TakesExactly}
 use Rattle.dd_blocks.specs.declared.plan.Plan.{Plan}
@@ -49,3 +50,11 @@ EndsWith Words left left' taken taken' = ⊥
 EndsWith (Script fault) left left' taken taken' = IsRefused fault left left' × Appends taken taken' []
 EndsWith ReadFault left left' taken taken' = Appends taken taken' []
 EndsWith WriteFault left left' taken taken' = WritesFront left left' taken taken'
+
+-- the count of an object's faults, by whether one of them ended the run: it rose, or it is as it was
+abbrev pub CountsFaults : Type 0 → ℕ → ℕ → Type 0
+CountsFaults Failed before now = (Failed → Rose before now) × ((Failed → ⊥) → now ≡ before) × (before ≤ now)
+
+-- the counts of the source and of the output, by the status
+abbrev pub TellsFaults : Status → (reads reads' writes writes' : ℕ) → Type 0
+TellsFaults status reads reads' writes writes' = CountsFaults (status ≡ ReadFault) reads reads' × CountsFaults (status ≡ WriteFault) writes writes'

@@ -21,6 +21,3 @@ pub use reporting::report;
 pub use run::run_words;
 pub use status::{Outcome, Status};
 pub use words::CommandWords;
-
-#[cfg(test)]
-mod tests;

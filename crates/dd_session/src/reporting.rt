@@ -31,8 +31,9 @@ fn report_fault<E: Sink>(fault: Fault, err: &mut E) -> Result<(), IoFault>
     )
 }
 
-/// Writes what a status says to the error output. It takes no memory.
+/// Writes what a status says to the error output. It takes no memory, and for a run that is done it calls nothing.
 pub fn report<E: Sink>(status: Status, err: &mut E) -> Result<(), IoFault>
+    ensures quiet { status ≡ Status.Done → err.new ≡ err.old }
     ensures all { OnOk result (Appends (E.taken err.old) (E.taken err.new) (message_of status)) }
     ensures front { OnErr result (AppendsFront (E.taken err.old) (E.taken err.new) (message_of status)) }
     ensures cause { FailsOnlyIfRose result (E.faults err.old) (E.faults err.new) }

@@ -2,13 +2,12 @@ ghost use Rattle.std.specs.Prelude.{◌≡◌, ℕ, ◌<◌, ◌≤◌, ◌↔�
 ghost use Rattle.std.specs.Io.KnownBytes.{Appends};
 ghost use Rattle.dd_causes.specs.Counts.{Rose};
 ghost use Rattle.dd_causes.specs.Appended.{AppendsFront};
-ghost use Rattle.dd_blocks.specs.declared.plan.Plan.{Plan};
 ghost use Rattle.dd_blocks.specs.Limits.{text_limit};
 ghost use Rattle.dd_check.specs.declared.fault.Fault.{Fault};
-ghost use Rattle.dd_check.specs.Faults.{IsFault, IsPlanOf, too_long};
+ghost use Rattle.dd_check.specs.Faults.{IsFault, too_long};
 ghost use Rattle.dd_session.specs.Words.{AreCommand};
 ghost use Rattle.dd_session.specs.Messages.{message_of};
-ghost use Rattle.dd_session.specs.Outcomes.{EndsWith};
+ghost use Rattle.dd_session.specs.Outcomes.{EndsWith, TellsFaults};
 
 use crate::reporting::report;
 use crate::status::{Outcome, Status};
@@ -24,12 +23,9 @@ const BYTE_LIMIT: usize = 1_048_576;
 /// Reads a script and runs it.
 fn run<S: Source, O: Sink>(alloc: Global, src: &mut S, out: &mut O) -> Status
     ensures ends { EndsWith result (S.left src.old) (S.left src.new) (O.taken out.old) (O.taken out.new) }
-    ensures read_cause { result ≡ Status.ReadFault → Rose (S.faults src.old) (S.faults src.new) }
-    ensures write_cause { result ≡ Status.WriteFault → Rose (O.faults out.old) (O.faults out.new) }
-    ensures reads_told { (result ≡ Status.ReadFault → ⊥) → S.faults src.new ≡ S.faults src.old }
-    ensures writes_told { (result ≡ Status.WriteFault → ⊥) → O.faults out.new ≡ O.faults out.old }
-    ensures reads_later { S.faults src.old ≤ S.faults src.new }
-    ensures writes_later { O.faults out.old ≤ O.faults out.new }
+    ensures unwritten { (fault : Fault) → result ≡ Status.Script fault → out.new ≡ out.old }
+    ensures unread { result ≡ Status.ReadFault → out.new ≡ out.old }
+    ensures faults { TellsFaults result (S.faults src.old) (S.faults src.new) (O.faults out.old) (O.faults out.new) }
 {
     let text = match read_all(alloc, src, BYTE_LIMIT) {
         Ok(text) => text,
@@ -72,12 +68,9 @@ fn run_if_asked<S: Source, O: Sink>(
     ensures idle { (AreCommand words.now → ⊥) → (src.new ≡ src.old) × (out.new ≡ out.old) }
     ensures ends { AreCommand words.now
         → EndsWith result (S.left src.old) (S.left src.new) (O.taken out.old) (O.taken out.new) }
-    ensures read_cause { result ≡ Status.ReadFault → Rose (S.faults src.old) (S.faults src.new) }
-    ensures write_cause { result ≡ Status.WriteFault → Rose (O.faults out.old) (O.faults out.new) }
-    ensures reads_told { (result ≡ Status.ReadFault → ⊥) → S.faults src.new ≡ S.faults src.old }
-    ensures writes_told { (result ≡ Status.WriteFault → ⊥) → O.faults out.new ≡ O.faults out.old }
-    ensures reads_later { S.faults src.old ≤ S.faults src.new }
-    ensures writes_later { O.faults out.old ≤ O.faults out.new }
+    ensures unwritten { (fault : Fault) → result ≡ Status.Script fault → out.new ≡ out.old }
+    ensures unread { result ≡ Status.ReadFault → out.new ≡ out.old }
+    ensures faults { TellsFaults result (S.faults src.old) (S.faults src.new) (O.faults out.old) (O.faults out.new) }
 {
     if words.are_command() {
         run(alloc, src, out)
@@ -104,10 +97,10 @@ pub fn run_words<S: Source, O: Sink, E: Sink>(
     ensures ends { AreCommand words.now
         → EndsWith result.status (S.left src.old) (S.left src.new) (O.taken out.old) (O.taken out.new) }
 
-    // Where no read failed and the source tells what it has: a script that has a Plan is run, and one that has a first
+    // Where no read failed and the source tells what it has: a script that has no fault is run, and one that has a first
     // fault is refused for it.
-    ensures complete { AreCommand words.now → (text : List ℕ) (plan : Plan) → S.left src.old ≡ Some text
-        → length text ≤ text_limit → IsPlanOf text plan → (Rose (S.faults src.old) (S.faults src.new) → ⊥)
+    ensures complete { AreCommand words.now → (text : List ℕ) → S.left src.old ≡ Some text
+        → ((fault : Fault) → IsFault text fault → ⊥) → (Rose (S.faults src.old) (S.faults src.new) → ⊥)
         → (Rose (O.faults out.old) (O.faults out.new) → ⊥) → (result.status ≡ Status.Done) ⊎ (result.status ≡ Status.Memory) }
     ensures refused { AreCommand words.now → (text : List ℕ) (fault : Fault) → S.left src.old ≡ Some text
         → length text ≤ text_limit → IsFault text fault → (Rose (S.faults src.old) (S.faults src.new) → ⊥)
@@ -116,21 +109,20 @@ pub fn run_words<S: Source, O: Sink, E: Sink>(
         → text_limit < length text → (Rose (S.faults src.old) (S.faults src.new) → ⊥)
         → (result.status ≡ Status.Script too_long) ⊎ (result.status ≡ Status.Memory) }
 
-    // Why a read or a write failed.
-    ensures read_cause { result.status ≡ Status.ReadFault → Rose (S.faults src.old) (S.faults src.new) }
-    ensures write_cause { result.status ≡ Status.WriteFault → Rose (O.faults out.old) (O.faults out.new) }
+    // A script that is refused and a source that failed leave the output as it was, and a run that is done leaves the error
+    // output, also where they tell nothing of their bytes.
+    ensures unwritten { (fault : Fault) → result.status ≡ Status.Script fault → out.new ≡ out.old }
+    ensures unread { result.status ≡ Status.ReadFault → out.new ≡ out.old }
+    ensures quiet { result.status ≡ Status.Done → err.new ≡ err.old }
 
-    // No fault is passed over.
-    ensures reads_told { (result.status ≡ Status.ReadFault → ⊥) → S.faults src.new ≡ S.faults src.old }
-    ensures writes_told { (result.status ≡ Status.WriteFault → ⊥) → O.faults out.new ≡ O.faults out.old }
+    // Why a read or a write failed; no fault is passed over.
+    ensures faults { TellsFaults result.status (S.faults src.old) (S.faults src.new) (O.faults out.old) (O.faults out.new) }
 
     // What the error output got.
     ensures message { Rose (E.faults err.old) (E.faults err.new)
         ⊎ Appends (E.taken err.old) (E.taken err.new) (message_of result.status) }
     ensures front { AppendsFront (E.taken err.old) (E.taken err.new) (message_of result.status) }
 
-    ensures reads_later { S.faults src.old ≤ S.faults src.new }
-    ensures writes_later { O.faults out.old ≤ O.faults out.new }
     ensures reports_later { E.faults err.old ≤ E.faults err.new }
 {
     let status = run_if_asked(alloc, words, src, out);

@@ -8,6 +8,3 @@ pub struct Column {
     pub step: i64,
     pub count: u32,
 }
-
-#[cfg(test)]
-mod tests;

@@ -107,6 +107,3 @@ fn room(bounds: &Bounds, length: u32) -> u64
         bounds.first as u64 - 1
     }
 }
-
-#[cfg(test)]
-mod tests;

@@ -178,6 +178,3 @@ impl View {
         col * u64::from(self.height) + row
     }
 }
-
-#[cfg(test)]
-mod tests;

@@ -1,7 +1,0 @@
-use Rattle.std.proofs.Common.{take}
-use Rattle.std.specs.List.{All}
-use Rattle.dd_place.specs.Premises.{HasBlocks}
-use Rattle.dd_place.proofs.processor.tests.have_blocks.Given as goal
-
-abbrev pub invariant-loop-array : goal.invariant-loop-array
-invariant-loop-array l = All (HasBlocks l.plan) (take l.array-index l.arrays)
