@@ -25,7 +25,7 @@ found_none tasks t = record {
   exact = λ u. ((λ has. absurd (omega (arith, has.1))), (λ some. absurd (omega (arith, some.0, some.1))));
 }
 
-rising_push : (found : List ℕ) (x : ℕ) → IsStrictlyIncreasing found → ((u : ℕ) → Contains found u → u < x) → IsStrictlyIncreasing (found ++ x ∷ [])
+pub rising_push : (found : List ℕ) (x : ℕ) → IsStrictlyIncreasing found → ((u : ℕ) → Contains found u → u < x) → IsStrictlyIncreasing (found ++ x ∷ [])
 rising_push found x rising below k within =
     let size = length-append found (x ∷ []) in
     let here : k < length found = omega (arith, size, within) in

@@ -10,6 +10,7 @@ pub mod PlanElements
 pub mod Layout
 pub mod Lives
 pub mod Tasks
+pub mod OfPlan
 pub mod Touches
 pub mod WellFormed
 pub mod Lines

@@ -1,4 +1,5 @@
-ghost use Rattle.std.specs.Prelude.{◌≡◌, ◌<◌, ◌≤◌};
+ghost use Rattle.std.specs.Prelude.{◌≡◌, ◌<◌, ◌≤◌, map, sum};
+ghost use Rattle.std.specs.List.{range_with_len};
 
 use crate::piece::piece_len;
 
@@ -22,6 +23,9 @@ impl Grid {
         requires { IsGrid self.now }
         ensures value { result ≡ block_count self.now }
         ensures few { result ≤ element_count self.now }
+
+        // The sizes of all blocks sum to the elements of the array.
+        ensures sum { sum (map (block_size self.now) (range_with_len 0 result)) ≡ element_count self.now }
     {
         self.block_rows() * u64::from(self.cols.div_ceil(self.bcols))
     }

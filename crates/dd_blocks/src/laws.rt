@@ -1,6 +1,6 @@
 //! Laws over the definitions of this crate. Each is a function without arguments whose contract is the law.
 
-ghost use Rattle.std.specs.Prelude.{◌≡◌, ◌↔◌, ◌<◌, ◌||◌, ℕ, true, map, sum};
+ghost use Rattle.std.specs.Prelude.{◌≡◌, ◌↔◌, ◌<◌, ◌||◌, ℕ, true, map};
 ghost use Rattle.std.specs.List.{range_with_len};
 ghost use Rattle.dd_blocks.specs.declared.grid.Grid.{Grid};
 ghost use Rattle.dd_blocks.specs.declared.plan.Plan.{Plan};
@@ -25,11 +25,6 @@ pub fn position_of_place()
         → (pos_of g block place < element_count g)
         × (block_of g (pos_of g block place) ≡ block)
         × (place_in_block g (pos_of g block place) ≡ place) }
-{}
-
-/// The sizes of all blocks sum to the elements of the array.
-pub fn sizes_sum()
-    ensures { (g : Grid) → IsGrid g → sum (map (block_size g) (range_with_len 0 (block_count g))) ≡ element_count g }
 {}
 
 /// The elements of all arrays are numbered as they stand, one array after the other.

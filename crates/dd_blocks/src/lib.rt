@@ -30,6 +30,7 @@ mod block_row;
 mod fill;
 mod grid;
 pub mod laws;
+pub mod limits;
 mod name;
 mod piece;
 mod plan;

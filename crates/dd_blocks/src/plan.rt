@@ -28,6 +28,43 @@ pub struct Plan {
 
 impl Plan {
     ghost use Rattle.dd_blocks.specs.Homes.{home_before};
+    ghost use Rattle.dd_blocks.specs.Numbered.{IsNumberIn, array_row, block_row, proc_row, space_row};
+
+    /// The row of a space, by its number.
+    #[tactic(auto, using(crate::proofs::NumberedLemmas::row_at))]
+    pub fn space(&self, number: u32) -> &SpaceRow
+        requires { IsNumberIn self.now.spaces number }
+        ensures { result.now ≡ space_row self.now number }
+    {
+        &self.spaces.as_slice()[number as usize - 1]
+    }
+
+    /// The row of a processor, by its number.
+    #[tactic(auto, using(crate::proofs::NumberedLemmas::row_at))]
+    pub fn proc(&self, number: u32) -> &ProcRow
+        requires { IsNumberIn self.now.procs number }
+        ensures { result.now ≡ proc_row self.now number }
+    {
+        &self.procs.as_slice()[number as usize - 1]
+    }
+
+    /// The row of an array, by its number.
+    #[tactic(auto, using(crate::proofs::NumberedLemmas::row_at))]
+    pub fn array(&self, number: u32) -> &ArrayRow
+        requires { IsNumberIn self.now.arrays number }
+        ensures { result.now ≡ array_row self.now number }
+    {
+        &self.arrays.as_slice()[number as usize - 1]
+    }
+
+    /// The row of a block, by its number.
+    #[tactic(auto, using(crate::proofs::NumberedLemmas::row_at))]
+    pub fn block(&self, number: u32) -> &BlockRow
+        requires { IsNumberIn self.now.blocks number }
+        ensures { result.now ≡ block_row self.now number }
+    {
+        &self.blocks.as_slice()[number as usize - 1]
+    }
 
     /// The home of a block when a row of the statements begins: the space to which the last row above it moved
     /// the block's array, or else the block's first home. The row may be the one that comes next.

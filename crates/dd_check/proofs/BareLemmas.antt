@@ -72,6 +72,7 @@ bare_sound n spaces procs policy rule live settled small unnamed with_proc with_
   line = record {
     few = omega arith;
     lines = λ i j d le lt. absurd (omega arith);
+    rise = λ k lt. absurd (omega arith);
     above = λ k d lt. absurd (omega arith);
     tasks = omega arith;
   };

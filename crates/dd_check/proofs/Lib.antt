@@ -56,6 +56,7 @@ pub mod OnlyListLemmas
 pub mod OneTaskLemmas
 pub mod OneEnteredLemmas
 pub mod OneFoundLemmas
-pub mod TextLemmas
 pub mod OneLineLemmas
 pub mod OneTextLemmas
+pub mod SomeRowsLemmas
+pub mod EveryTextLemmas

@@ -3,14 +3,11 @@ use Rattle.std.proofs.Common.{◌≡◌, ℕ, ◌⊎◌, inl, inr, ⊎_elim, Lis
 use Rattle.std.proofs.lemmas.Option.{none-some, same_Some}
 use Rattle.dd_tokens.specs.declared.fault.LineFault.{LineFault}
 use Rattle.dd_tokens.specs.declared.fault.LineFault.TheVariants as unread
-use Rattle.dd_tokens.specs.declared.token.Token.{Token}
-use Rattle.dd_tokens.specs.Bytes.{IsText, before_comment}
-use Rattle.dd_tokens.specs.Lexeme.{lexemes_of}
-use Rattle.dd_tokens.specs.Tokens.{AreTokensOf}
-use Rattle.dd_tokens.proofs.TokensLemmas.{one_cutting}
 use Rattle.dd_script.specs.declared.statement.Statement.{Statement}
-use Rattle.dd_script.specs.Reads.{IsStatementFault, Reads, Say}
-use Rattle.dd_script.proofs.OneLemmas.{one_reading, one_reason, said_faultless}
+use Rattle.dd_script.specs.Answers.{IsLineFault}
+use Rattle.dd_script.specs.Reads.{Reads}
+use Rattle.dd_script.proofs.AnswersLemmas.{one_fault, read_faultless}
+use Rattle.dd_script.proofs.ReadsLemmas.{one_reading}
 use Rattle.dd_check.specs.declared.fault.Fault.{Fault}
 use Rattle.dd_check.specs.declared.kind.Kind.{Kind}
 use Rattle.dd_check.specs.declared.kind.Kind.TheVariants.{NotText, BadForm, UnknownStatement, BadNumber, UnknownPart, UnendedRegion}
@@ -19,9 +16,8 @@ use Rattle.dd_check.specs.Entering.{Enters}
 use Rattle.dd_check.specs.Faults.{AreClear, IsFirstOf, IsRefused, IsTaken, IsUnread, Plain, kinds}
 use Rattle.dd_check.proofs.OneEnteredLemmas.{one_entered}
 use Rattle.dd_check.proofs.OneFoundLemmas.{found_not_clear, one_found, same_fault}
-use Rattle.dd_check.proofs.TextLemmas.{text_of_tokens}
 
--- the kind of a line that can't be read, by its reason. Want of memory is none, and any kind will do there
+-- the kind of a line that can't be read, by its fault. Want of memory is none, and any kind will do there
 kind_of : LineFault → Kind
 kind_of unread.NotText = NotText
 kind_of unread.BadForm = BadForm
@@ -30,68 +26,29 @@ kind_of unread.BadNumber = BadNumber
 kind_of unread.UnknownPart = UnknownPart
 kind_of unread.Memory = UnendedRegion
 
--- tokens that are no statement for a reason
-record NoStatement (kind : Kind) (line : List ℕ) : Type 0 where
-  reason : LineFault
-  known : reason ≡ unread.Memory → ⊥
-  kind_is : kind ≡ kind_of reason
-  tokens : List Token
-  cut : AreTokensOf line tokens
-  fault : IsStatementFault reason (lexemes_of line tokens)
+-- a line that can't be read has a fault
+record HasFault (kind : Kind) (line : List ℕ) : Type 0 where
+  fault : LineFault
+  kind_is : kind ≡ kind_of fault
+  holds : IsLineFault fault line
 
--- bytes that are no tokens
-record NoTokens (line : List ℕ) : Type 0 where
-  text : IsText line
-  none : (tokens : List Token) → AreTokensOf line tokens → ⊥
-
--- a line that can't be read is no text, has no tokens, or has tokens that are no statement
-data Unreadable (kind : Kind) (line : List ℕ) : Type 0 where
-  no_text : kind ≡ NotText → (IsText line → ⊥) → Unreadable kind line
-  no_tokens : kind ≡ BadForm → NoTokens line → Unreadable kind line
-  no_statement : NoStatement kind line → Unreadable kind line
-
-unreadable : (kind : Kind) (line : List ℕ) → IsUnread kind line → Unreadable kind line
+fault_of : (kind : Kind) (line : List ℕ) → IsUnread kind line → HasFault kind line
 unfolding kind_of
-unreadable NotText line h = no_text refl h
-unreadable BadForm line h = ⊎_elim
-    (λ fault. no_tokens refl (record { text = fault.0; none = fault.1 }))
-    (λ fault. no_statement (record { reason = unread.BadForm; known = λ e. absurd (cc); kind_is = refl; tokens = fault.0; cut = fault.1; fault = fault.2 }))
-    h
-unreadable UnknownStatement line h = no_statement (record { reason = unread.UnknownStatement; known = λ e. absurd (cc); kind_is = refl; tokens = h.0; cut = h.1; fault = h.2 })
-unreadable BadNumber line h = no_statement (record { reason = unread.BadNumber; known = λ e. absurd (cc); kind_is = refl; tokens = h.0; cut = h.1; fault = h.2 })
-unreadable UnknownPart line h = no_statement (record { reason = unread.UnknownPart; known = λ e. absurd (cc); kind_is = refl; tokens = h.0; cut = h.1; fault = h.2 })
-unreadable _ line h = absurd h
-
-same_tokens : (line : List ℕ) (ts us : List Token) → AreTokensOf line ts → AreTokensOf line us → ts ≡ us
-same_tokens line ts us h g = one_cutting 0 (before_comment line) ts us h g
-
-one_unreadable : (j k : Kind) (line : List ℕ) → Unreadable j line → Unreadable k line → j ≡ k
-one_unreadable j k line (no_text is h) (no_text other g) = is ∙ sym other
-one_unreadable j k line (no_text is h) (no_tokens other g) = absurd (h g.text)
-one_unreadable j k line (no_text is h) (no_statement g) = absurd (h (text_of_tokens line g.tokens g.cut))
-one_unreadable j k line (no_tokens is h) (no_text other g) = absurd (g h.text)
-one_unreadable j k line (no_tokens is h) (no_tokens other g) = is ∙ sym other
-one_unreadable j k line (no_tokens is h) (no_statement g) = absurd (h.none g.tokens g.cut)
-one_unreadable j k line (no_statement h) (no_text other g) = absurd (g (text_of_tokens line h.tokens h.cut))
-one_unreadable j k line (no_statement h) (no_tokens other g) = absurd (g.none h.tokens h.cut)
-one_unreadable j k line (no_statement h) (no_statement g) =
-    let same : h.tokens ≡ g.tokens = same_tokens line h.tokens g.tokens h.cut g.cut in
-    let fault : IsStatementFault h.reason (lexemes_of line g.tokens) = subst (λ (ts : List Token). IsStatementFault h.reason (lexemes_of line ts)) same h.fault in
-    h.kind_is ∙ ap kind_of (one_reason h.reason g.reason (lexemes_of line g.tokens) h.known g.known fault g.fault) ∙ sym g.kind_is
-
-unreadable_unsaid : (k : Kind) (line : List ℕ) (x : Option Statement) → Unreadable k line → Reads line x → ⊥
-unreadable_unsaid k line x (no_text is h) g = h (text_of_tokens line g.tokens g.cut)
-unreadable_unsaid k line x (no_tokens is h) g = h.none g.tokens g.cut
-unreadable_unsaid k line x (no_statement h) g =
-    let same : g.tokens ≡ h.tokens = same_tokens line g.tokens h.tokens g.cut h.cut in
-    let said : Say (lexemes_of line h.tokens) x = subst (λ (ts : List Token). Say (lexemes_of line ts) x) same g.say in
-    said_faultless h.reason (lexemes_of line h.tokens) x h.known h.fault said
+fault_of NotText line h = record { fault = unread.NotText; kind_is = refl; holds = h }
+fault_of BadForm line h = record { fault = unread.BadForm; kind_is = refl; holds = h }
+fault_of UnknownStatement line h = record { fault = unread.UnknownStatement; kind_is = refl; holds = h }
+fault_of BadNumber line h = record { fault = unread.BadNumber; kind_is = refl; holds = h }
+fault_of UnknownPart line h = record { fault = unread.UnknownPart; kind_is = refl; holds = h }
+fault_of _ line h = absurd h
 
 one_unread : (j k : Kind) (line : List ℕ) → IsUnread j line → IsUnread k line → j ≡ k
-one_unread j k line h g = one_unreadable j k line (unreadable j line h) (unreadable k line g)
+one_unread j k line h g =
+    let f = fault_of j line h in
+    let e = fault_of k line g in
+    f.kind_is ∙ ap kind_of (one_fault f.fault e.fault line f.holds e.holds) ∙ sym e.kind_is
 
 unread_unsaid : (k : Kind) (line : List ℕ) (x : Option Statement) → IsUnread k line → Reads line x → ⊥
-unread_unsaid k line x h g = unreadable_unsaid k line x (unreadable k line h) g
+unread_unsaid k line x h g = let f = fault_of k line h in read_faultless f.fault line x f.holds g
 
 -- what a line says
 same_said : (line : List ℕ) (x y : Statement) → Reads line (Some x) → Reads line (Some y) → x ≡ y

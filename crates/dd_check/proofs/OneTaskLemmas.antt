@@ -26,7 +26,7 @@ abbrev with_accesses : ℕ → List AccessRow → TaskRow
 with_accesses region accesses = record no_task { region = region; accesses = accesses }
 
 -- where a task runs hangs on its region and its accesses
-placed_alike : (rule : Rule) (plan : Plan) (earlier : List ℕ) (t u : TaskRow) (p : ℕ) → t.region ≡ u.region → t.accesses ≡ u.accesses → IsPlacedBy rule plan earlier t p → IsPlacedBy rule plan earlier u p
+pub placed_alike : (rule : Rule) (plan : Plan) (earlier : List ℕ) (t u : TaskRow) (p : ℕ) → t.region ≡ u.region → t.accesses ≡ u.accesses → IsPlacedBy rule plan earlier t p → IsPlacedBy rule plan earlier u p
 placed_alike Rr plan earlier t u p region accesses h = h
 placed_alike Home plan earlier t u p region accesses h =
     let space : space_for plan t ≡ space_for plan u = λ i. space_for plan (with_accesses (region i) (accesses i)) in

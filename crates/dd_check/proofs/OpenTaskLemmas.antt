@@ -17,7 +17,7 @@ use Rattle.dd_blocks.specs.Numbered.{IsNumberIn, array_row, no_array, proc_row}
 use Rattle.dd_blocks.specs.Tasks.{IsShown, MeetsKernel, limit_at, shapes_in}
 use Rattle.dd_place.specs.Loads.{all_procs, or_else}
 use Rattle.dd_place.specs.Placement.{IsPlacedBy}
-use Rattle.dd_place.specs.Premises.{HasBlocks}
+use Rattle.dd_blocks.specs.OfPlan.{HasBlocks}
 use Rattle.dd_script.specs.declared.piece.Piece.{Piece}
 use Rattle.dd_script.specs.declared.statement.Statement.TheVariants.{Task}
 use Rattle.dd_check.specs.Above.{Above, array_named}

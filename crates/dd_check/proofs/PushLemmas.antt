@@ -1,9 +1,10 @@
 -- One more statement: what holds of the machine, the lines, the touches and the rows that are named.
-use Rattle.std.proofs.Common.{◌≡◌, ℕ, suc, ◌+◌, ◌≤◌, true, List, [], ◌∷◌, ◌++◌, length, get_or, refl, ap, sym, subst, ◌∙◌, arith}
+use Rattle.std.proofs.Common.{◌≡◌, ℕ, suc, ◌+◌, ◌<◌, ◌≤◌, true, List, [], ◌∷◌, ◌++◌, length, get_or, map, refl, ap, sym, subst, ◌∙◌, arith}
 use Rattle.std.specs.List.{All, sum_by}
-use Rattle.std.proofs.lemmas.List.{length-append}
-use Rattle.std.proofs.lemmas.List.Elements.{All-push, All-weaker, filter_map-append}
+use Rattle.std.proofs.lemmas.List.{length-append, map-append}
+use Rattle.std.proofs.lemmas.List.Elements.{All-map, All-push, All-weaker, filter_map-append}
 use Rattle.std.proofs.lemmas.List.Sums.{sum_by_push}
+use Rattle.dd_lists.proofs.RisingLemmas.{rising_push}
 use Rattle.dd_blocks.specs.declared.plan.Plan.{Plan}
 use Rattle.dd_blocks.specs.declared.statement_row.StatementRow.{StatementRow}
 use Rattle.dd_blocks.specs.declared.task_row.TaskRow.{TaskRow}
@@ -51,10 +52,14 @@ no_tasks_region s none few =
       touches = omega (arith, no_blocks, few);
     }
 
+abbrev line_of : StatementRow → ℕ
+line_of row = row.line
+
 pub line_push : (n : ℕ) (s after : Above) (what : What) → IsInLineTo n s → after.plan.statements ≡ s.plan.statements ++ record { line = suc n; what = what } ∷ [] → length after.plan.tasks + length (open_tasks after) ≤ suc n → IsInLineTo (suc n) after
 line_push n s after what line is tasks = record {
   few = rw is (rw length-append (omega (arith, line.few)));
   lines = rw is (rises_append (λ (row : StatementRow). row.line) n s.plan.statements (row_on (suc n) what ∷ []) line.lines (rises_one (λ (r : StatementRow). r.line) (row_on (suc n) what)) line.above (All-push (λ (r : StatementRow). n ≤ r.line) [] (row_on (suc n) what) (All_none (λ (r : StatementRow). n ≤ r.line) [] refl) (omega arith)));
+  rise = rw (is, map-append) (rising_push (map line_of s.plan.statements) (suc n) line.rise (All-map (λ k. k < suc n) line_of s.plan.statements (All-weaker (λ (r : StatementRow). r.line ≤ n) (λ (r : StatementRow). r.line < suc n) (λ r le. omega arith) s.plan.statements line.above)));
   above = rw is (All-push (λ (r : StatementRow). r.line ≤ suc n) s.plan.statements (row_on (suc n) what) (All-weaker (λ (r : StatementRow). r.line ≤ n) (λ (r : StatementRow). r.line ≤ suc n) (λ r le. omega arith) s.plan.statements line.above) (omega arith));
   tasks = tasks;
 }
@@ -63,6 +68,7 @@ pub line_kept : (n : ℕ) (s after : Above) → IsInLineTo n s → after.plan.st
 line_kept n s after line is tasks = record {
   few = rw is (omega (arith, line.few));
   lines = rw is line.lines;
+  rise = rw is line.rise;
   above = rw is (All-weaker (λ (r : StatementRow). r.line ≤ n) (λ (r : StatementRow). r.line ≤ suc n) (λ r le. omega arith) s.plan.statements line.above);
   tasks = tasks;
 }

@@ -59,7 +59,7 @@ region : IsSoundRegion nothing_above
 region = record { tasks = λ k d low. none_below k low; few = omega arith; elements = omega arith; touches = omega arith }
 
 line : IsInLineTo 0 nothing_above
-line = record { few = omega arith; lines = λ i j d order low. none_below j low; above = λ k d low. none_below k low; tasks = omega arith }
+line = record { few = omega arith; lines = λ i j d order low. none_below j low; rise = λ k low. none_below _ low; above = λ k d low. none_below k low; tasks = omega arith }
 
 pub sound_nothing : IsSound 0 nothing_above
 sound_nothing = record {

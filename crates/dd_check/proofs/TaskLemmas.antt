@@ -20,7 +20,8 @@ use Rattle.dd_blocks.specs.Numbered.{array_row}
 use Rattle.dd_blocks.specs.Tasks.{shape_in}
 use Rattle.dd_blocks.specs.WellFormed.{IsInLine, IsWellFormed}
 use Rattle.dd_place.specs.Placement.{IsPlaced, IsPlacedBy}
-use Rattle.dd_place.specs.Premises.{CanPlace, IsOfPlan}
+use Rattle.dd_blocks.specs.OfPlan.{IsOfPlan}
+use Rattle.dd_place.specs.Premises.{CanPlace}
 use Rattle.dd_place.proofs.NextLemmas.{above_next}
 use Rattle.dd_place.proofs.PremisesLemmas.{can_place}
 use Rattle.dd_script.specs.declared.piece.Piece.{Piece}

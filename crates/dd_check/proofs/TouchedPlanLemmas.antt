@@ -14,7 +14,7 @@ use Rattle.dd_blocks.specs.Numbered.{IsNumberIn, array_row, no_array}
 use Rattle.dd_blocks.specs.Tasks.{shape_in}
 use Rattle.dd_blocks.specs.WellFormed.{HasSmallEdges}
 use Rattle.dd_blocks.proofs.GridLemmas.{block_within}
-use Rattle.dd_place.specs.Premises.{HasBlocks, IsOfPlan}
+use Rattle.dd_blocks.specs.OfPlan.{HasBlocks, IsOfPlan}
 use Rattle.dd_check.specs.Touching.{Adds, AreOf, HasSmallNumbers, HoldsSome}
 use Rattle.dd_views.proofs.WithinLemmas.{element_within}
 

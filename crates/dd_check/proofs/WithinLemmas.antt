@@ -7,11 +7,12 @@ use Rattle.dd_blocks.specs.declared.task_row.TaskRow.{TaskRow}
 use Rattle.dd_blocks.specs.Charges.{AreTouched, Touches, block_with}
 use Rattle.dd_blocks.specs.Elements.{HasElement}
 use Rattle.dd_blocks.specs.Grids.{block_count, block_of, element_count}
+use Rattle.dd_blocks.specs.Lines.{LinesRise}
 use Rattle.dd_blocks.specs.Numbered.{IsNumberIn, array_row, no_array}
 use Rattle.dd_blocks.specs.Tasks.{IsShown, shape_in}
 use Rattle.dd_blocks.specs.WellFormed.{IsWellFormed}
 use Rattle.dd_blocks.proofs.GridLemmas.{block_within}
-use Rattle.dd_place.specs.Premises.{HasBlocks}
+use Rattle.dd_blocks.specs.OfPlan.{HasBlocks}
 use Rattle.dd_place.proofs.PremisesLemmas.{can_place}
 use Rattle.dd_check.specs.Above.{Above, settle}
 use Rattle.dd_check.specs.Sound.{IsSound}
@@ -41,6 +42,10 @@ formed n s sound settled few = record {
   regions = sound.regions;
   lives = sound.lives;
 }
+
+-- no two rows have one line
+pub lines_rise : (n : ℕ) (s : Above) → IsSound n s → LinesRise (settle s).plan
+lines_rise n s sound = (settle_sound n s sound).line.rise
 
 pub well_formed : (n : ℕ) (s : Above) → IsSound n s → n ≤ lines_limit → IsWellFormed (settle s).plan
 well_formed n s sound few = formed n (settle s) (settle_sound n s sound) refl few

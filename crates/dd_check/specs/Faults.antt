@@ -1,14 +1,12 @@
 -- The first fault of a text.
 use Rattle.std.specs.Prelude.{◌≡◌, ◌⊎◌, ℕ, ◌+◌, ◌<◌, ◌≤◌, List, [], ◌∷◌, length, None, Some}
 use Rattle.dd_tokens.specs.declared.fault.LineFault.TheVariants as unread
-use Rattle.dd_tokens.specs.declared.token.Token.{Token}
-use Rattle.dd_tokens.specs.Lexeme.{lexemes_of}
-use Rattle.dd_tokens.specs.Tokens.{AreTokensOf, IsTokenFault}
 use Rattle.dd_blocks.specs.declared.plan.Plan.{Plan}
 use Rattle.dd_blocks.specs.Limits.{text_limit}
 use Rattle.dd_script.specs.declared.statement.Statement.{Statement}
 use Rattle.dd_check.specs.Lines.{lines_of}
-use Rattle.dd_script.specs.Reads.{Reads, IsStatementFault}
+use Rattle.dd_script.specs.Answers.{IsLineFault}
+use Rattle.dd_script.specs.Reads.{Reads}
 use Rattle.dd_check.specs.declared.fault.AcceptFault.{AcceptFault}
 use Rattle.dd_check.specs.declared.fault.AcceptFault.TheVariants.{Script, Memory}
 use Rattle.dd_check.specs.declared.fault.Fault.{Fault}
@@ -64,11 +62,11 @@ IsFirstOf n s x (kind ∷ more) fault =
 
 -- why a line can't be read
 abbrev pub IsUnread : Kind → List ℕ → Type 0
-IsUnread NotText line = IsTokenFault unread.NotText line
-IsUnread BadForm line = IsTokenFault unread.BadForm line ⊎ ((tokens : List Token) × AreTokensOf line tokens × IsStatementFault unread.BadForm (lexemes_of line tokens))
-IsUnread UnknownStatement line = (tokens : List Token) × AreTokensOf line tokens × IsStatementFault unread.UnknownStatement (lexemes_of line tokens)
-IsUnread BadNumber line = (tokens : List Token) × AreTokensOf line tokens × IsStatementFault unread.BadNumber (lexemes_of line tokens)
-IsUnread UnknownPart line = (tokens : List Token) × AreTokensOf line tokens × IsStatementFault unread.UnknownPart (lexemes_of line tokens)
+IsUnread NotText line = IsLineFault unread.NotText line
+IsUnread BadForm line = IsLineFault unread.BadForm line
+IsUnread UnknownStatement line = IsLineFault unread.UnknownStatement line
+IsUnread BadNumber line = IsLineFault unread.BadNumber line
+IsUnread UnknownPart line = IsLineFault unread.UnknownPart line
 IsUnread _ line = ⊥
 
 -- the line with number n says what may not stand below s

@@ -7,6 +7,7 @@ use Rattle.dd_blocks.specs.declared.task_row.TaskRow.{TaskRow}
 use Rattle.dd_blocks.specs.Charges.{AreTouched, access_elements, charge_of}
 use Rattle.dd_blocks.specs.Layout.{IsLaidOut}
 use Rattle.dd_blocks.specs.Limits.{region_elements_limit, region_tasks_limit, touches_limit}
+use Rattle.dd_blocks.specs.Lines.{LinesRise}
 use Rattle.dd_blocks.specs.Lives.{AreLives, IsLive, names_ended, names_given}
 use Rattle.dd_blocks.specs.Numbered.{IsNumberIn, array_row}
 use Rattle.dd_blocks.specs.Tasks.{IsShown, MeetsKernel, limit_at}
@@ -59,6 +60,7 @@ pub record AreSoundNames (s : Above) : Type 0 where
 pub record IsInLineTo (n : ℕ) (s : Above) : Type 0 where
   pub few : length s.plan.statements ≤ n
   pub lines : IsNonDecreasingBy (λ (row : StatementRow). row.line) s.plan.statements
+  pub rise : LinesRise s.plan
   pub above : All (λ (row : StatementRow). row.line ≤ n) s.plan.statements
   pub tasks : length s.plan.tasks + length (open_tasks s) ≤ n
 

@@ -20,3 +20,8 @@ pub fn one_plan()
 pub fn one_fault()
     ensures { (text : List ℕ) (fault : Fault) → IsFault text fault → IsOnlyFaultOf text fault }
 {}
+
+/// No text has neither a Plan nor a fault.
+pub fn every_text()
+    ensures { (text : List ℕ) → ((plan : Plan) → ¬ IsPlanOf text plan) → ((fault : Fault) → ¬ IsFault text fault) → ⊥ }
+{}

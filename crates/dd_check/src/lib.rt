@@ -8,8 +8,8 @@
 //! }
 //! ```
 //!
-//! A script has one Plan or one first fault, never both: the least kind that holds on the first line that has one. The
-//! Plan is well formed, so whoever takes it need not look at it again.
+//! A script has one Plan or one first fault, never both and never neither: the least kind that holds on the first line that
+//! has one. The Plan is well formed, so whoever takes it need not look at it again.
 //!
 //! The text is gone through once, line by line. Names are found by a hash map, and no list of elements is made: the blocks
 //! that a task touches follow from the places of its views' rows and columns, from one piece of an edge to the next. The

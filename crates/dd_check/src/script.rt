@@ -1,6 +1,7 @@
 //! The script as a whole.
 ghost use Rattle.std.specs.Prelude.{◌+◌, ◌<◌, ◌≤◌, length, IfErr, IfOk, OnOk};
 ghost use Rattle.dd_blocks.specs.Limits.{text_limit};
+ghost use Rattle.dd_blocks.specs.Lines.{LinesRise};
 ghost use Rattle.dd_blocks.specs.WellFormed.{IsWellFormed};
 ghost use Rattle.dd_check.specs.Chain.{IsRefusedOr};
 ghost use Rattle.dd_check.specs.Drafts.{Counts, above_of};
@@ -39,6 +40,7 @@ pub fn accept(alloc: Global, text: &[u8]) -> Result<Plan, AcceptFault>
     requires { length text.now ≤ text_limit }
     ensures plan { IfOk result (IsOnlyPlanOf text.now) }
     ensures well_formed { IfOk result IsWellFormed }
+    ensures lines { IfOk result LinesRise }
     ensures fault { IfErr result (λ e. IsAcceptFault e text.now) }
 {
     let mut draft = Draft::new(alloc);

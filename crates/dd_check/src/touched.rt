@@ -9,7 +9,7 @@ ghost use Rattle.dd_blocks.specs.Grids.{block_cols, block_rows};
 ghost use Rattle.dd_blocks.specs.Numbered.{IsNumberIn, array_row};
 ghost use Rattle.dd_blocks.specs.Tasks.{shape_in};
 ghost use Rattle.dd_blocks.specs.WellFormed.{HasSmallEdges};
-ghost use Rattle.dd_place.specs.Premises.{HasBlocks, IsOfPlan};
+ghost use Rattle.dd_blocks.specs.OfPlan.{HasBlocks, IsOfPlan};
 ghost use Rattle.dd_check.specs.Touching.{Adds, AreOf, Between, HasSmallNumbers, HoldsSome, IsBlockAt, IsTouchedBy, number_of_block};
 
 use crate::pieces::slice_from;

@@ -4,6 +4,7 @@ pub mod ListsLemmas
 pub mod MatricesLemmas
 pub mod NamesLemmas
 pub mod NumbersLemmas
+pub mod OrderLemmas
 pub mod RisingLemmas
 pub mod RotationLemmas
 pub mod ShapesLemmas

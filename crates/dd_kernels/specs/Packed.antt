@@ -22,7 +22,7 @@ packed [] xs i j = pos 0
 packed (p ∷ ps) [] i j = pos 0
 packed (p ∷ ps) (x ∷ xs) i j = if (p.0 == i) && (p.1 == j) then x else packed ps xs i j
 
--- the order n, of at least 1, of a triangle of n (n - 1) / 2 elements
+-- the order n, of at least 1, of a triangle of n (n - 1) / 2 elements: the only one, as a law says
 abbrev pub strict_order : ℕ → ℕ
 strict_order len = 1 + count_by (λ k. nat_le ((k + 1) * (k + 2)) (2 * len)) (range_with_len 0 len)
 

@@ -9,9 +9,8 @@
 //! and [`combine`] are there for them.
 //!
 //! What a kernel computes is one equation of `specs/Table.antt`; the names stand in `specs/Names.antt`, the
-//! accesses in `specs/Signatures.antt`, the shapes in `specs/Shapes.antt`. [`laws`] has what holds of them: a
-//! list that a kernel only writes counts for nothing before it, one that it only reads stays, and the rising
-//! order is the one sorted permutation.
+//! accesses in `specs/Signatures.antt`, the shapes in `specs/Shapes.antt`. [`laws`] has what holds of them: the rising
+//! order is the one sorted permutation, and the order of a packed triangle is the one that its length has.
 //!
 //! Inside, `run` goes by the number of accesses and lends their buffers as slices, `one_list`, `two_lists`
 //! and `three_lists` go by the kernel, and the other modules have the work itself: `element_wise` place by

@@ -119,3 +119,16 @@ Contains-map {X = X} f (z ∷ xs) x (suc k, lt, is) =
     let here : Contains xs x = (k, omega (arith, lt), is) in
     let there = Contains-map f xs x here in
     (suc there.0, omega (arith, there.1), there.2)
+
+-- a filter that keeps all, and one that keeps none
+pub filter_all : {X : Type 0} (p : X → Bool) (xs : List X) → All (λ x. p x ≡ true) xs → filter p xs ≡ xs
+filter_all p [] all = refl
+filter_all {X = X} p (x ∷ xs) all =
+    let P : X → Type 0 = λ y. p y ≡ true in
+    ap (λ (b : Bool). cond b (x ∷ filter p xs) (filter p xs)) (All-head P x xs all) ∙ ap (λ (ys : List X). x ∷ ys) (filter_all p xs (All-tail P x xs all))
+
+pub filter_none : {X : Type 0} (p : X → Bool) (xs : List X) → All (λ x. p x ≡ false) xs → filter p xs ≡ []
+filter_none p [] all = refl
+filter_none {X = X} p (x ∷ xs) all =
+    let P : X → Type 0 = λ y. p y ≡ false in
+    ap (λ (b : Bool). cond b (x ∷ filter p xs) (filter p xs)) (All-head P x xs all) ∙ filter_none p xs (All-tail P x xs all)

@@ -1,10 +1,12 @@
 pub mod Computing
 pub mod RowPlan
 mod RowExamples
-mod RowLegal
+pub mod RowLegal
+pub mod RowWellFormed
 pub mod ChangesLemmas
 pub mod RangesLemmas
 pub mod RunsLemmas
+pub mod PropsLemmas
 pub mod ProgressLemmas
 pub mod TestsLemmas
 pub mod TotalsLemmas

@@ -297,7 +297,7 @@ unfolding computing
 legal_run = ((refl, m0), ((refl, m1), ((refl, m2), ((refl, m3), ((refl, m4), ((refl, m5), ((refl, m6), ((refl, m7), ((refl, m8), ((refl, m9), ((refl, m10), ((refl, m11), ((refl, m12), ((refl, m13), ((refl, m14), ((refl, m15), ((refl, m16), ((refl, m17), ((refl, m18), tt)))))))))))))))))))
 
 -- it is a whole one
-whole_run : IsWholeRun two_spaces journal
+pub whole_run : IsWholeRun two_spaces journal
 unfolding computing
 whole_run = (legal_run, refl)
 

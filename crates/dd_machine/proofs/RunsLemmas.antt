@@ -18,6 +18,11 @@ unfolding state_after
 state_parts plan st [] ys = refl
 state_parts plan st (x ∷ xs) ys = state_parts plan (after plan st x.event) xs ys
 
+pub run_more : (plan : Plan) (st : State) (xs ys : List Entry) → IsRun plan st xs → IsRun plan (state_after plan st xs) ys → IsRun plan st (xs ++ ys)
+unfolding IsRun state_after
+run_more plan st [] ys run rest = rest
+run_more plan st (x ∷ xs) ys run rest = (run.0, run_more plan (after plan st x.event) xs ys run.1 rest)
+
 -- a run's first entry is legal, and the rest is a run from there
 pub run_first : (plan : Plan) (st : State) (entry : Entry) (entries : List Entry) → IsRun plan st (entry ∷ entries) → Legal plan st entry × IsRun plan (after plan st entry.event) entries
 unfolding IsRun

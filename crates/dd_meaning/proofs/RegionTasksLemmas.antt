@@ -225,7 +225,7 @@ fewer a r =
     omega (arith, one, at_most_one (leb a (r - 1))))
     (cases_lt r a)
 
-count_le : (plan : Plan) (region : ℕ) → tasks_through plan (region - 1) ≤ tasks_through plan region
+pub count_le : (plan : Plan) (region : ℕ) → tasks_through plan (region - 1) ≤ tasks_through plan region
 count_le plan region =
     sum_by-le-sum_by (λ (t : TaskRow). cond (leb t.region (region - 1)) 1 0) (λ (t : TaskRow). cond (leb t.region region) 1 0) plan.tasks (λ t. fewer t.region region)
 

@@ -16,8 +16,8 @@ use Rattle.dd_blocks.specs.Grids.{element_count}
 use Rattle.dd_blocks.specs.WellFormed.{IsWellFormed}
 use Rattle.dd_blocks.specs.declared.array_row.ArrayRow.{ArrayRow}
 use Rattle.dd_meaning.specs.Steps.{computed, put_at, step, stored, stored_one, world_after}
-use Rattle.dd_meaning.specs.Versions.{last_writer}
 use Rattle.dd_blocks.specs.Elements.{Element, has, task_writes}
+use Rattle.dd_meaning.specs.Versions.{last_writer}
 use Rattle.dd_meaning.specs.Worlds.{World, filled, filled_at, filled_world, values_of}
 use Rattle.dd_meaning.specs.Values.{value_at, value_in}
 use Rattle.dd_meaning.specs.Written.{IsIn, put_value, value_stored, value_stored_one}
@@ -84,7 +84,7 @@ neither : (a b : Bool) → (a || b) ≡ false → (a ≡ false) × (b ≡ false)
 neither true b e = absurd (cc)
 neither false b e = (refl, e)
 
-put_nothing : (qs : List ℕ) (values : List ℤ) (p : ℕ) (before : ℤ) → list_any (λ q. nat_eq q p) qs ≡ false → put_value qs values p before ≡ before
+pub put_nothing : (qs : List ℕ) (values : List ℤ) (p : ℕ) (before : ℤ) → list_any (λ q. nat_eq q p) qs ≡ false → put_value qs values p before ≡ before
 put_nothing [] values p before none = refl
 put_nothing (q ∷ qs) [] p before none = refl
 put_nothing (q ∷ qs) (v ∷ values) p before none =

@@ -1,6 +1,7 @@
 pub mod NumberedLemmas
 pub mod RegionsLemmas
 pub mod LoadsLemmas
+pub mod SomeLemmas
 pub mod OneLemmas
 pub mod RisingLemmas
 pub mod PremisesLemmas

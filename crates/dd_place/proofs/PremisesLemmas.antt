@@ -14,7 +14,8 @@ use Rattle.dd_blocks.specs.Layout.{IsLaidOut, StandsBehind, blocks_in, blocks_of
 use Rattle.dd_blocks.specs.Lives.{regions_run}
 use Rattle.dd_blocks.specs.Numbered.{no_array, numbered}
 use Rattle.dd_blocks.specs.WellFormed.{IsWellFormed}
-use Rattle.dd_place.specs.Premises.{CanPlace, HasBlocks}
+use Rattle.dd_blocks.specs.OfPlan.{HasBlocks}
+use Rattle.dd_place.specs.Premises.{CanPlace}
 use Rattle.dd_place.proofs.NumberedLemmas.{numbered_next}
 use Rattle.dd_place.proofs.RisingLemmas.{rise}
 

@@ -6,7 +6,8 @@ ghost use Rattle.dd_blocks.specs.Charges.{block_with};
 ghost use Rattle.dd_blocks.specs.Grids.{element_count};
 ghost use Rattle.dd_blocks.specs.Numbered.{IsNumberIn, array_row};
 ghost use Rattle.dd_place.specs.Leading.{first_block, first_block_of, written};
-ghost use Rattle.dd_place.specs.Premises.{CanPlace, IsOfPlan};
+ghost use Rattle.dd_blocks.specs.OfPlan.{IsOfPlan};
+ghost use Rattle.dd_place.specs.Premises.{CanPlace};
 
 use dd_blocks::{AccessRow, Plan};
 use dd_kernels::Mode;

@@ -6,7 +6,8 @@ ghost use Rattle.dd_blocks.specs.Numbered.{IsNumberIn};
 ghost use Rattle.dd_blocks.specs.WellFormed.{NamesRows};
 ghost use Rattle.dd_place.specs.Leading.{space_for};
 ghost use Rattle.dd_place.specs.Placement.{IsPlaced};
-ghost use Rattle.dd_place.specs.Premises.{CanPlace, IsOfPlan};
+ghost use Rattle.dd_blocks.specs.OfPlan.{IsOfPlan};
+ghost use Rattle.dd_place.specs.Premises.{CanPlace};
 
 use crate::leading::leading_block;
 use crate::load::least_loaded_for;

@@ -8,7 +8,7 @@ use Rattle.dd_blocks.specs.Tasks.{kernel_shape, shapes_in}
 use Rattle.dd_plain.specs.Lending.{AreHeld, IsHeld, all_places, places_in}
 use Rattle.dd_plain.specs.Lists.{lists_of}
 use Rattle.dd_plain.specs.Runs.{Wrote}
-use Rattle.dd_plain.proofs.StepLemmas.{items_written}
+use Rattle.dd_lists.proofs.VectorsLemmas.{items_written}
 
 pub two_wrote : {k : Kernel} {scalar : ℤ} (lent : AccessRow → Bool) (accesses : List AccessRow) (x y : AccessRow) (held first rest : List (Vec ℤ)) (d e : Vec ℤ) (old_x old_y new_x new_y : List ℤ) → accesses ≡ x ∷ y ∷ [] → AreHeld lent accesses (lists_of held) → first ≡ take 1 held → rest ≡ drop 1 held → old_x ≡ (get_or first 0 d).items → old_y ≡ (get_or rest 0 e).items → length new_x ≡ length old_x → length new_y ≡ length old_y → Wrote k scalar (kernel_shape x.view ∷ kernel_shape y.view ∷ []) (places_in lent x (length old_x) ∷ places_in lent y (length old_y) ∷ []) (old_x ∷ old_y ∷ []) (new_x ∷ new_y ∷ []) → Wrote k scalar (shapes_in accesses) (all_places lent accesses (lists_of held)) (lists_of held) (lists_of (set first 0 (with_items (get_or first 0 d) new_x) ++ set rest 0 (with_items (get_or rest 0 e) new_y)))
 two_wrote lent accesses x y [] first rest d e old_x old_y new_x new_y two are_held front back x_is y_is x_long y_long wrote = absurd (subst (λ (l : List AccessRow). AreHeld lent l []) two are_held)

@@ -25,11 +25,11 @@ use Rattle.dd_meaning.specs.Versions.{tasks_through}
 use Rattle.dd_meaning.specs.Worlds.{World, values_of}
 use Rattle.dd_plain.specs.declared.run.Run.{Run}
 use Rattle.dd_plain.specs.Lists.{lists_of}
-use Rattle.dd_plain.specs.MovesRest.{NoneAsks}
+use Rattle.dd_transfers.specs.Rest.{NoneAsks}
 use Rattle.dd_meaning.specs.RegionRows.{what_at}
 use Rattle.dd_plain.specs.Rows.{HasRun}
 use Rattle.dd_plain.specs.Sizes.{HasSizes}
-use Rattle.dd_plain.proofs.MovesHomesLemmas.{moved_next}
+use Rattle.dd_transfers.proofs.HomesLemmas.{moved_next}
 use Rattle.dd_meaning.proofs.RegionRowsLemmas.{above_other}
 use Rattle.dd_blocks.proofs.NumberedLemmas.{row_at}
 use Rattle.dd_plain.proofs.TaskLemmas.{holds_values}

@@ -5,6 +5,7 @@ use Rattle.std.specs.List.{All, AllByRecursion, range_with_len}
 use Rattle.std.specs.Vec.{with_items}
 use Rattle.std.proofs.lemmas.Bool.{cases_Bool}
 use Rattle.std.proofs.lemmas.List.{length-map, map-set, set-set, take_all, take_at}
+use Rattle.dd_lists.proofs.VectorsLemmas.{items_written}
 use Rattle.dd_kernels.specs.declared.shape.Shape.{Shape}
 use Rattle.dd_kernels.specs.declared.signature.Mode.{Mode}
 use Rattle.dd_kernels.specs.Lists.{element}
@@ -33,10 +34,6 @@ use Rattle.dd_plain.proofs.TaskLemmas.{holds_values, lent_apart, long_view}
 use Rattle.dd_plain.proofs.WalkLemmas.{elements_run}
 use Rattle.dd_meaning.proofs.WorldLemmas.{length_put, put_whole, same_written, stored_sizes, values_written}
 use Rattle.dd_plain.proofs.SizesLemmas.{as_many, has_size}
-
--- a vector holds the list that was written over it
-pub items_written : {X : Type 0} (v : Vec X) (values : List X) → length values ≡ length v.items → (with_items v values).items ≡ values
-items_written v values same = take_at values (drop (length values) v.items) v.len (same ∙ sym v.ok.0)
 
 -- what is held of accesses may be held of them, also after it was written
 pub are_held : (arrays : List ArrayRow) (lent : AccessRow → Bool) (world : World) (accesses : List AccessRow) → HasSizes arrays world → All (IsInArray arrays) accesses → AreHeld lent accesses (map (held lent world) accesses)

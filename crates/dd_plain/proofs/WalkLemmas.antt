@@ -76,11 +76,6 @@ store_next f from values i n at v within long here value =
     let next : drop i from ≡ get_or from i (pos 0) ∷ drop (i + 1) from = drop_more from i (pos 0) (omega (arith, long)) in
     rw (more, next, here, value) refl
 
--- a step of 1, by its bits
-pub one_step : (s : ℤ) → FitsSigned w64 s → cast_unsigned w64 s ≡ 1 → s ≡ pos 1
-one_step (pos n) fits one = ap pos one
-one_step (negsuc n) fits one = absurd (omega (arith, ints, one, fits))
-
 -- a column and those behind it
 pub column_ahead : (v : View) (j : ℕ) (c : Column) → j < v.cols.count → positions_in c ≡ column_list v (j + 1) → length (columns_from v j) ≡ c.count + length (columns_from v (j + 1))
 column_ahead v j c lt value =

@@ -3,9 +3,5 @@ pub mod Sizes
 pub mod Walks
 pub mod Lending
 pub mod Runs
-pub mod MovesMarks
-pub mod MovesHomes
-pub mod MovesVisits
-pub mod MovesRest
 pub mod Rows
 pub mod Bands

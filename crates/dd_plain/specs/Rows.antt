@@ -4,7 +4,7 @@ use Rattle.dd_blocks.specs.declared.plan.Plan.{Plan}
 use Rattle.dd_meaning.specs.Text.{moved_above, regions_above, world_at}
 use Rattle.dd_plain.specs.declared.run.Run.{Run}
 use Rattle.dd_plain.specs.Lists.{lists_of}
-use Rattle.dd_plain.specs.MovesRest.{IsAtRest}
+use Rattle.dd_transfers.specs.Rest.{IsAtRest}
 use Rattle.dd_plain.specs.Sizes.{HasSizes}
 
 -- so many rows have run: the tasks of their regions made the world, and what these moved is counted, where a row below

@@ -29,7 +29,6 @@ mod computing;
 mod fault;
 mod gathering;
 mod lending;
-mod moves;
 mod printing;
 mod run;
 mod runs;

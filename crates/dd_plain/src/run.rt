@@ -11,13 +11,13 @@ ghost use Rattle.dd_plain.specs.Rows.{HasRun};
 ghost use Rattle.dd_plain.specs.Sizes.{HasSizes};
 
 use crate::fault::PlainFault;
-use crate::moves::Moves;
 use crate::printing::{print_array, print_moved, print_sum};
 use crate::task::run_tasks;
 use crate::tasks::tasks_of;
 use crate::world::filled_world;
 use dd_blocks::{Plan, What};
 use dd_io::Sink;
+use dd_transfers::Moves;
 use std::alloc::{AllocError, Global};
 
 /// Runs the tasks of a Plan one after the other on whole arrays, and writes the script's text, row by row.

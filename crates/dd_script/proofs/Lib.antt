@@ -6,7 +6,8 @@ mod ViewStepsLemmas
 mod ArgumentStepsLemmas
 mod FormStepsLemmas
 mod GatheredLemmas
-mod ReadsLemmas
+pub mod ReadsLemmas
 mod StatementExamples
 pub mod OneLemmas
+pub mod AnswersLemmas
 pub mod ShortLemmas

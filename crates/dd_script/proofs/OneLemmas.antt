@@ -11,7 +11,6 @@ use Rattle.dd_script.specs.Numbers.{numbers_fit}
 use Rattle.dd_script.specs.Reads.{BeginUnknown, HaveBadForm, HaveBadNumber, HaveUnknownPart, IsStatementFault, Say, SayStatement, meaning}
 use Rattle.dd_script.proofs.FormStepsLemmas.{read_again}
 use Rattle.dd_script.proofs.ReadsLemmas.{one_form}
-pub use Rattle.dd_script.proofs.ReadsLemmas.{one_reading}
 
 begun : (form : Written) → BeginUnknown (spelling form) → ⊥
 begun form h = let r = read_again form in (subst BeginUnknown r.spelled h) r.keyword refl

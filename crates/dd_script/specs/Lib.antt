@@ -8,6 +8,7 @@ pub mod Numbers
 pub mod Pieces
 pub mod PieceFaults
 pub mod Reads
+pub mod Answers
 pub mod Keywords
 pub mod ViewSteps
 pub mod Many

@@ -1,13 +1,15 @@
 //! What a line says.
 
-ghost use Rattle.std.specs.Prelude.{◌≡◌, ◌<◌, length, Option, IfOk, IfErr};
+ghost use Rattle.std.specs.Prelude.{◌≡◌, ◌≢◌, ◌<◌, length, IfOk, IfErr, IfSome};
 ghost use Rattle.std.specs.List.{AllByRecursion};
+ghost use Rattle.dd_tokens.specs.declared.fault.LineFault.TheVariants.{Memory};
 ghost use Rattle.dd_tokens.specs.TokenIn.{IsTokenIn};
 ghost use Rattle.dd_tokens.specs.Tokens.{AreTokensOf};
 ghost use Rattle.dd_tokens.specs.Lexeme.{lexemes_of};
-ghost use Rattle.dd_script.specs.declared.statement.Statement.{Statement};
+ghost use Rattle.dd_script.specs.Answers.{IsOnlyLineFaultOf, IsOnlyReadingOf};
 ghost use Rattle.dd_script.specs.Spelling.{spelling};
 ghost use Rattle.dd_script.specs.Reads.{SayStatement, Reads, IsFormFault, IsStatementFault};
+ghost use Rattle.dd_script.specs.Short.{IsShort};
 
 use crate::form::form_by;
 use crate::keyword::keyword_of;
@@ -66,10 +68,13 @@ pub fn statement_of(
     requires { AreTokensOf line.now tokens.now }
     ensures reads { IfOk result (λ x. Reads line.now x) }
 
-    // The line says nothing else.
-    ensures only { IfOk result (λ x. (y : Option Statement) → Reads line.now y → y ≡ x) }
-
+    // The line says nothing else, and has no fault.
+    ensures only { IfOk result (IsOnlyReadingOf line.now) }
+    ensures short { IfOk result (λ x. IfSome x IsShort) }
     ensures fault { IfErr result (λ e. IsStatementFault e (lexemes_of line.now tokens.now)) }
+
+    // The line has no other fault, and says nothing.
+    ensures only_fault { IfErr result (λ e. e ≢ Memory → IsOnlyLineFaultOf line.now e) }
 {
     if tokens.is_empty() {
         return Ok(None);

@@ -5,7 +5,7 @@ use Rattle.dd_io.specs.Taken.{ReadsToEnd, TakesExactly}
 use Rattle.dd_blocks.specs.declared.plan.Plan.{Plan}
 use Rattle.dd_blocks.specs.Limits.{text_limit}
 use Rattle.dd_check.specs.declared.fault.Fault.{Fault}
-use Rattle.dd_check.specs.Faults.{IsFault, IsPlanOf, IsOnlyFaultOf, IsOnlyPlanOf, too_long}
+use Rattle.dd_check.specs.Faults.{IsFault, IsOnlyFaultOf, IsOnlyPlanOf, too_long}
 use Rattle.dd_session.specs.declared.status.Status.{Status}
 use Rattle.dd_session.specs.declared.status.Status.TheVariants.{Done, Memory, Words, Script, ReadFault, WriteFault}
 use Rattle.dd_session.specs.Outcomes.{ReadsPlan, ReadsFaulty, WritesAll, WritesFront, IsRefused, EndsWith}
@@ -31,18 +31,18 @@ short_plan text plan left' r = subst (λ (t : List ℕ). length t ≤ text_limit
 short_fault : (text : List ℕ) (fault : Fault) (left' : Option (List ℕ)) → ReadsFaulty (Some text) left' fault → length text ≤ text_limit
 short_fault text fault left' r = subst (λ (t : List ℕ). length t ≤ text_limit) (text_read text r.text left' r.read) r.short
 
--- a script that is accepted is run
-pub accepted_is_run : (status : Status) (left left' taken taken' : Option (List ℕ)) (text : List ℕ) (plan : Plan) → left ≡ Some text → EndsWith status left left' taken taken' → length text ≤ text_limit → IsPlanOf text plan → (status ≡ ReadFault → ⊥) → (status ≡ WriteFault → ⊥) → (status ≡ Done) ⊎ (status ≡ Memory)
-accepted_is_run Done left left' taken taken' text plan e h short p r w = inl refl
-accepted_is_run Memory left left' taken taken' text plan e h short p r w = inr refl
-accepted_is_run Words left left' taken taken' text plan e h short p r w = absurd h
-accepted_is_run ReadFault left left' taken taken' text plan e h short p r w = absurd (r refl)
-accepted_is_run WriteFault left left' taken taken' text plan e h short p r w = absurd (w refl)
-accepted_is_run (Script fault) left left' taken taken' text plan e h short p r w =
+-- a script without a fault is run
+pub faultless_is_run : (status : Status) (left left' taken taken' : Option (List ℕ)) (text : List ℕ) → left ≡ Some text → EndsWith status left left' taken taken' → ((fault : Fault) → IsFault text fault → ⊥) → (status ≡ ReadFault → ⊥) → (status ≡ WriteFault → ⊥) → (status ≡ Done) ⊎ (status ≡ Memory)
+faultless_is_run Done left left' taken taken' text e h faultless r w = inl refl
+faultless_is_run Memory left left' taken taken' text e h faultless r w = inr refl
+faultless_is_run Words left left' taken taken' text e h faultless r w = absurd h
+faultless_is_run ReadFault left left' taken taken' text e h faultless r w = absurd (r refl)
+faultless_is_run WriteFault left left' taken taken' text e h faultless r w = absurd (w refl)
+faultless_is_run (Script fault) left left' taken taken' text e h faultless r w =
     let known : IsRefused fault (Some text) left' = subst (λ (l : Option (List ℕ)). IsRefused fault l left') e h.0 in
     elim known as (λ _. (Script fault ≡ Done) ⊎ (Script fault ≡ Memory)) [
-      | inl t ↦ absurd (omega (arith, long_taken text (text_limit + 1) left' t.1))
-      | inr o ↦ absurd ((fault_of text fault left' o).planless plan p)
+      | inl t ↦ let long : text_limit < length text = omega (arith, long_taken text (text_limit + 1) left' t.1) in absurd (faultless too_long (inl (long, refl)))
+      | inr o ↦ absurd (faultless fault (fault_of text fault left' o).is)
     ]
 
 -- a script with a fault is refused for it

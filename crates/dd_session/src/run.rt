@@ -2,10 +2,9 @@ ghost use Rattle.std.specs.Prelude.{◌≡◌, ℕ, ◌<◌, ◌≤◌, ◌↔�
 ghost use Rattle.std.specs.Io.KnownBytes.{Appends};
 ghost use Rattle.dd_causes.specs.Counts.{Rose};
 ghost use Rattle.dd_causes.specs.Appended.{AppendsFront};
-ghost use Rattle.dd_blocks.specs.declared.plan.Plan.{Plan};
 ghost use Rattle.dd_blocks.specs.Limits.{text_limit};
 ghost use Rattle.dd_check.specs.declared.fault.Fault.{Fault};
-ghost use Rattle.dd_check.specs.Faults.{IsFault, IsPlanOf, too_long};
+ghost use Rattle.dd_check.specs.Faults.{IsFault, too_long};
 ghost use Rattle.dd_session.specs.Words.{AreCommand};
 ghost use Rattle.dd_session.specs.Messages.{message_of};
 ghost use Rattle.dd_session.specs.Outcomes.{EndsWith, TellsFaults};
@@ -98,10 +97,10 @@ pub fn run_words<S: Source, O: Sink, E: Sink>(
     ensures ends { AreCommand words.now
         → EndsWith result.status (S.left src.old) (S.left src.new) (O.taken out.old) (O.taken out.new) }
 
-    // Where no read failed and the source tells what it has: a script that has a Plan is run, and one that has a first
+    // Where no read failed and the source tells what it has: a script that has no fault is run, and one that has a first
     // fault is refused for it.
-    ensures complete { AreCommand words.now → (text : List ℕ) (plan : Plan) → S.left src.old ≡ Some text
-        → length text ≤ text_limit → IsPlanOf text plan → (Rose (S.faults src.old) (S.faults src.new) → ⊥)
+    ensures complete { AreCommand words.now → (text : List ℕ) → S.left src.old ≡ Some text
+        → ((fault : Fault) → IsFault text fault → ⊥) → (Rose (S.faults src.old) (S.faults src.new) → ⊥)
         → (Rose (O.faults out.old) (O.faults out.new) → ⊥) → (result.status ≡ Status.Done) ⊎ (result.status ≡ Status.Memory) }
     ensures refused { AreCommand words.now → (text : List ℕ) (fault : Fault) → S.left src.old ≡ Some text
         → length text ≤ text_limit → IsFault text fault → (Rose (S.faults src.old) (S.faults src.new) → ⊥)

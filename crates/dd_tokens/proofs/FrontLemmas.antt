@@ -1,10 +1,10 @@
 -- Lemmas on the token at the front of a list of bytes.
-use Rattle.std.proofs.Common.{◌≡◌, ℕ, zero, suc, ◌+◌, ◌≤◌, ◌<◌, Bool, true, List, [], ◌∷◌, Option, Some, None, IfSome, length, take, drop, refl, sym, ◌∙◌, ap, arith, ⊎_elim}
+use Rattle.std.proofs.Common.{◌≡◌, ℕ, zero, suc, ◌+◌, ◌≤◌, ◌<◌, Bool, true, false, not, ◌||◌, List, [], ◌∷◌, Option, Some, None, IfSome, length, take, drop, refl, sym, ◌∙◌, ap, subst, arith, ⊎_elim}
 use Rattle.std.specs.Option.{option_map}
 use Rattle.std.specs.List.{AllPass, prefix_len}
 use Rattle.std.specs.Str.Parse.{IsNumeral}
-use Rattle.std.proofs.lemmas.Bool.{and_parts, leb-true}
-use Rattle.std.proofs.lemmas.List.{get_or-take, length-take-le, drop-take, length-drop}
+use Rattle.std.proofs.lemmas.Bool.{and_parts, cases_Bool, leb-true}
+use Rattle.std.proofs.lemmas.List.{get_or-take, length-take-le, drop-drop, drop-take, length-drop}
 use Rattle.std.proofs.lemmas.List.Sums.{prefix_len_passes, prefix_len-le-length}
 use Rattle.std.proofs.lemmas.Str.Parse.{numerals_by_value, tells_by_index}
 use Rattle.dd_causes.proofs.StepsLemmas.{guard_some, chosen}
@@ -13,6 +13,7 @@ use Rattle.dd_tokens.specs.declared.token.TokenKind.TheVariants.{Word, Number, M
 use Rattle.dd_tokens.specs.Bytes.{is_letter, is_digit, is_word_byte, is_mark}
 use Rattle.dd_tokens.specs.Tokens.{begins, word_len, sign_len, number_len, front_token}
 use Rattle.dd_tokens.specs.TokenIn.{AreBytesOf}
+use Rattle.dd_tokens.specs.Cutting.{EndsBefore}
 use Rattle.dd_tokens.proofs.BytesLemmas.{letter_in_word, digit_in_range}
 
 -- the first bytes are those of a token of the kind
@@ -20,8 +21,19 @@ pub record BeginsWith (kind : TokenKind) (count : ℕ) (bs : List ℕ) : Type 0 
   pub long : 0 < count
   pub within : count ≤ length bs
   pub by_kind : AreBytesOf kind (take count bs)
+  pub ended : EndsBefore kind (drop count bs)
 
-begins-take : (p : ℕ → Bool) (n : ℕ) (bs : List ℕ) → 0 < n → begins p (take n bs) ≡ begins p bs
+-- behind the bytes of a class at the front stands none of the class
+run_ends : (p : ℕ → Bool) (bs : List ℕ) → begins p (drop (prefix_len p bs) bs) ≡ false
+run_ends p [] = refl
+run_ends p (b ∷ bs) = ⊎_elim (λ (yes : p b ≡ true). rw yes (subst (λ (l : List ℕ). begins p l ≡ false) (drop-drop (prefix_len p bs) 1 (b ∷ bs)) (run_ends p bs))) (λ (no : p b ≡ false). rw no no) (cases_Bool (p b))
+
+-- a byte that is neither of one class nor of another is of none of the two
+begins_neither : (p q : ℕ → Bool) (bs : List ℕ) → begins p bs ≡ false → begins q bs ≡ false → begins (λ b. p b || q b) bs ≡ false
+begins_neither p q [] e f = refl
+begins_neither p q (b ∷ bs) e f = rw (e, f) refl
+
+pub begins-take : (p : ℕ → Bool) (n : ℕ) (bs : List ℕ) → 0 < n → begins p (take n bs) ≡ begins p bs
 begins-take p zero bs long = absurd (omega arith)
 begins-take p (suc n) [] long = refl
 begins-take p (suc n) (b ∷ bs) long = refl
@@ -36,7 +48,11 @@ run_passes p bs k d lt =
     let short : k < prefix_len p bs = omega (arith, length-take-le (prefix_len p bs) bs (prefix_len-le-length p bs)) in
     rw (get_or-take (prefix_len p bs) bs k d short) (prefix_len_passes p bs k d short)
 
-sign-take : (bs : List ℕ) (n : ℕ) → 0 < n → sign_len (take n bs) ≡ sign_len bs
+not_true : (b : Bool) → not b ≡ true → b ≡ false
+not_true true e = absurd (cc)
+not_true false e = refl
+
+pub sign-take : (bs : List ℕ) (n : ℕ) → 0 < n → sign_len (take n bs) ≡ sign_len bs
 sign-take bs n long = rw (get_or-take n bs 0 0 long)
 
 -- the digits at the front are a numeral
@@ -49,7 +65,7 @@ digits_run bs digit =
 
 mark_front : (bs : List ℕ) → begins is_mark bs ≡ true → BeginsWith Mark 1 bs
 mark_front [] mark = absurd (cc)
-mark_front (b ∷ bs) mark = record { long = omega arith; within = omega arith; by_kind = (mark, refl) }
+mark_front (b ∷ bs) mark = record { long = omega arith; within = omega arith; by_kind = (mark, refl); ended = tt }
 
 word_front : (bs : List ℕ) (count : ℕ) → word_len bs ≡ Some count → BeginsWith Word count bs
 word_front bs count len =
@@ -61,6 +77,7 @@ word_front bs count len =
       long = long;
       within = prefix_len-le-length is_word_byte bs;
       by_kind = (begins-take is_letter _ bs long ∙ tests.0, run_passes is_word_byte bs, omega (arith, length-take-le _ bs (prefix_len-le-length is_word_byte bs), leb-true _ _ tests.1));
+      ended = run_ends is_word_byte bs;
     })
 
 number_front : (bs : List ℕ) (count : ℕ) → number_len bs ≡ Some count → BeginsWith Number count bs
@@ -68,13 +85,16 @@ number_front bs count len =
     let sign = sign_len bs in
     let rest = drop sign bs in
     let parts = guard_some _ _ count len in
-    let digit = (and_parts (begins is_digit rest) _ parts.0).0 in
+    let tests = and_parts (begins is_digit rest) _ parts.0 in
+    let digit = tests.0 in
+    let digits : begins is_digit (drop (sign + prefix_len is_digit rest) bs) ≡ false = rw (← drop-drop) (run_ends is_digit rest) in
     let whole : sign + prefix_len is_digit rest ≡ count = cc in
     let long = begins_run is_digit is_digit (λ _ e. e) rest digit in
     rw (← whole) (record {
       long = omega arith;
       within = omega (arith, length-drop sign bs, prefix_len-le-length is_digit rest);
       by_kind = rw (sign-take bs (sign + prefix_len is_digit rest) (omega arith), drop-take) (digits_run rest digit);
+      ended = begins_neither is_letter is_digit (drop (sign + prefix_len is_digit rest) bs) (not_true _ tests.1) digits;
     })
 
 -- the parts of equal pairs

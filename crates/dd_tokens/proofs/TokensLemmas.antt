@@ -55,7 +55,7 @@ cut_none code = record {
 }
 
 -- what is left behind the token that stands first
-left_behind : (code : List ℕ) (at : ℕ) (t : Token) → IsNextToken at (drop at code) t → drop (prefix_len is_blank (drop at code) + t.count) (drop at code) ≡ drop (t.first + t.count) code
+pub left_behind : (code : List ℕ) (at : ℕ) (t : Token) → IsNextToken at (drop at code) t → drop (prefix_len is_blank (drop at code) + t.count) (drop at code) ≡ drop (t.first + t.count) code
 left_behind code at t next = drop-drop _ at code ∙ ap (λ n. drop n code) (omega arith)
 
 pub cut_more : (code : List ℕ) (done : List Token) (at : ℕ) (t : Token) → IsCutTo code done at → IsNextToken at (drop at code) t → t.first + t.count ≤ length code → IsCutTo code (done ++ t ∷ []) (t.first + t.count)

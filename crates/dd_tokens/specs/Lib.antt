@@ -2,4 +2,5 @@ pub mod Bytes
 pub mod Tokens
 pub mod Lexeme
 pub mod TokenIn
+pub mod Cutting
 pub mod NextToken

@@ -4,6 +4,7 @@ ghost use Rattle.std.specs.Prelude.{◌≡◌, ℕ, ◌+◌, ◌<◌, ◌≤◌,
 ghost use Rattle.dd_tokens.specs.declared.fault.LineFault.TheVariants.{BadForm, Memory};
 ghost use Rattle.dd_tokens.specs.declared.token.Token.{Token};
 ghost use Rattle.dd_tokens.specs.Bytes.{IsText};
+ghost use Rattle.dd_tokens.specs.Cutting.{IsCuttingOf};
 ghost use Rattle.dd_tokens.specs.NextToken.{IsNextToken};
 ghost use Rattle.dd_tokens.specs.TokenIn.{IsTokenIn};
 ghost use Rattle.dd_tokens.specs.Tokens.{AreTokens, AreTokensOf, IsTokenFault};
@@ -23,8 +24,14 @@ pub fn tokens(alloc: Global, line: &[u8]) -> Result<Vec<Token>, LineFault>
     requires { length line.now < 2 ^ 32 }
     ensures cut { IfOk result (λ ts. IsText line.now × AreTokensOf line.now ts.items) }
 
-    // No other list is the line's, and each token can be read at its place.
+    // No other list is the line's.
     ensures only { IfOk result (λ ts. (us : List Token) → AreTokensOf line.now us → us ≡ ts.items) }
+
+    // They are the longest pieces of the line, with blanks outside them, and no other list of pieces is that.
+    ensures pieces { IfOk result (λ ts. IsCuttingOf line.now ts.items) }
+    ensures no_others { IfOk result (λ ts. (us : List Token) → IsCuttingOf line.now us → us ≡ ts.items) }
+
+    // Each token can be read at its place.
     ensures inside { IfOk result (λ ts. All (IsTokenIn line.now) ts.items) }
 
     ensures fault { IfErr result (λ e. IsTokenFault e line.now) }

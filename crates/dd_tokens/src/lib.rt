@@ -12,8 +12,8 @@
 //! takes no memory.
 //!
 //! Inside, `byte` has the classes of bytes, `comment` finds the part before the comment, `front` finds the token
-//! at the front of some bytes, and `cut` goes from one token to the next. A line has one list of tokens at most
-//! (`laws`), so `tokens` has no choice.
+//! at the front of some bytes, and `cut` goes from one token to the next. A line has one list of tokens at most,
+//! its longest pieces with blanks between them (`laws`), so `tokens` has no choice.
 #![tactic(auto)]
 
 mod byte;

@@ -1,6 +1,7 @@
 pub mod SignedLemmas
 pub mod ProgressionLemmas
 pub mod SpanLemmas
+pub mod SomeLemmas
 pub mod TriangleLemmas
 pub mod ListsLemmas
 pub mod ColumnsLemmas

@@ -11,7 +11,7 @@ ghost use Rattle.dd_machine.specs.Carriage.{IsCarriage, Step, sends};
 ghost use Rattle.dd_machine.specs.Closed.{IsAtHome};
 ghost use Rattle.dd_machine.specs.GoesOn.{GoOn};
 ghost use Rattle.dd_machine.specs.Roomy.{AllRoomy};
-ghost use Rattle.dd_machine.specs.Runs.{IsLegalRun, has_pick, state_of_run};
+ghost use Rattle.dd_machine.specs.Runs.{IsLegalRun, IsWholeRun, has_pick, state_of_run};
 ghost use Rattle.dd_machine.specs.Sound.{IsSound};
 ghost use Rattle.dd_machine.specs.Words.{IsOneOf, limit, spaces};
 
@@ -59,4 +59,9 @@ pub fn moved_least()
 /// task on; and a region is closed within a bounded number of entries.
 pub fn goes_on()
     ensures { (plan : Plan) → IsWellFormed plan → GoOn plan }
+{}
+
+/// A well-formed Plan with a whole legal run exists, so what the laws assume can be met.
+pub fn some_whole_run()
+    ensures { (plan : Plan) × (entries : List Entry) × IsWellFormed plan × IsWholeRun plan entries }
 {}

@@ -5,7 +5,8 @@ ghost use Rattle.dd_blocks.specs.Lives.{region_run};
 ghost use Rattle.dd_blocks.specs.Numbered.{IsNumberIn, array_row};
 ghost use Rattle.dd_blocks.specs.Tasks.{shape_in};
 ghost use Rattle.dd_blocks.specs.WellFormed.{IsFromOneTo};
-ghost use Rattle.dd_place.specs.Premises.{CanPlace, HasBlocks, IsBelow, IsOfPlan};
+ghost use Rattle.dd_blocks.specs.OfPlan.{HasBlocks, IsOfPlan};
+ghost use Rattle.dd_place.specs.Premises.{CanPlace, IsBelow};
 
 mod block_homes;
 mod cases;

@@ -2,11 +2,12 @@ use Rattle.std.proofs.Common.{◌≡◌, ◌+◌, [], ap, arith, subst, sym}
 use Rattle.std.proofs.lemmas.Bool.{eqb-true}
 use Rattle.std.proofs.lemmas.List.{nil_from_length}
 use Rattle.dd_blocks.specs.declared.plan.Plan.{Plan}
+use Rattle.dd_blocks.specs.Lines.{LinesRise}
 use Rattle.dd_blocks.specs.WellFormed.{IsWellFormed}
 use Rattle.dd_check.specs.Above.{Above}
 use Rattle.dd_check.specs.Drafts.{above_of}
 use Rattle.dd_check.proofs.ReachingLemmas.{reaches_next, sound_next, text_accepted, text_refused, text_unended}
-use Rattle.dd_check.proofs.WithinLemmas.{well_formed}
+use Rattle.dd_check.proofs.WithinLemmas.{lines_rise, well_formed}
 use Rattle.dd_check.proofs.script.accept.Goals as goal
 
 pub returns-in-Err-clause-fault : goal.returns-in-Err-clause-fault
@@ -38,3 +39,8 @@ pub returns-clause-well_formed : goal.returns-clause-well_formed
 returns-clause-well_formed c =
     subst (λ (p : Plan). IsWellFormed p) (sym (ap (λ (a : Above). a.plan) c.in_ok-settle.ensures.above))
     (well_formed c.loop-rest.above (above_of c.loop-rest.draft) c.loop-rest.invariant.1 (omega arith))
+
+pub returns-clause-lines : goal.returns-clause-lines
+returns-clause-lines c =
+    subst (λ (p : Plan). LinesRise p) (sym (ap (λ (a : Above). a.plan) c.in_ok-settle.ensures.above))
+    (lines_rise c.loop-rest.above (above_of c.loop-rest.draft) c.loop-rest.invariant.1)

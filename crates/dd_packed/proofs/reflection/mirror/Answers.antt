@@ -6,7 +6,7 @@ use Rattle.dd_kernels.specs.Lists.{tabulate}
 use Rattle.dd_kernels.specs.Packed.{packed, strictly_lower_pairs, strictly_upper_pairs}
 use Rattle.dd_kernels.proofs.MatricesLemmas.{tabulate_same}
 use Rattle.dd_packed.proofs.ColumnsLemmas.{before_more, upper_before, upper_end, triangle_more}
-use Rattle.dd_packed.proofs.OrderLemmas.{order_is}
+use Rattle.dd_kernels.proofs.OrderLemmas.{order_is}
 use Rattle.dd_packed.proofs.reflection.mirror.Goals as goal
 
 pub overflow_add-start : goal.overflow_add-start

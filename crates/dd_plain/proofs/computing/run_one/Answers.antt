@@ -15,7 +15,7 @@ returns c =
     let read = ap (λ l. l ∷ []) (run_read c.args.x.now c.args.at.first c.args.at.count c.requires.within) in
     record {
       made = c.apply_to_one.new.x ∷ [];
-      is = c.apply_to_one.ensures ∙ ap2 (λ (k : ℤ) ls. results task.kernel k (c.args.shape ∷ []) ls) (to_z-of_z w64 task.scalar fits) read;
+      is = c.apply_to_one.ensures.results ∙ ap2 (λ (k : ℤ) ls. results task.kernel k (c.args.shape ∷ []) ls) (to_z-of_z w64 task.scalar fits) read;
       filled = (long ∙ c.requires.filled, tt);
       put = ap (λ l. l ∷ []) (run_made c.args.x.now c.apply_to_one.new.x c.args.at.first c.args.at.count long c.requires.within);
     }

@@ -27,7 +27,7 @@ returns c =
     let x_put = run_made c.args.x.now x at.0.first at.0.count x_long c.requires.x_within in
     record {
       made = x ∷ y ∷ z ∷ [];
-      is = ap2 (λ l r. x ∷ l ∷ r ∷ []) (sym y_read) (sym z_read) ∙ c.apply_to_three.ensures ∙ ap2 (λ (k : ℤ) ls. results task.kernel k (c.args.shapes.0 ∷ c.args.shapes.1 ∷ c.args.shapes.2 ∷ []) ls) (to_z-of_z w64 task.scalar fits) (three_lists x_read y_read z_read);
+      is = ap2 (λ l r. x ∷ l ∷ r ∷ []) (sym y_read) (sym z_read) ∙ c.apply_to_three.ensures.results ∙ ap2 (λ (k : ℤ) ls. results task.kernel k (c.args.shapes.0 ∷ c.args.shapes.1 ∷ c.args.shapes.2 ∷ []) ls) (to_z-of_z w64 task.scalar fits) (three_lists x_read y_read z_read);
       filled = (x_long ∙ c.requires.x_filled, (y_long ∙ c.requires.y_filled, (z_long ∙ c.requires.z_filled, tt)));
       put = three_lists x_put (sym (put_same (positions c.args.at.1) c.args.y.now)) (sym (put_same (positions c.args.at.2) c.args.z.now));
     }

@@ -17,7 +17,7 @@ returns c =
     let read = ap2 (λ l r. l ∷ r ∷ []) (run_read c.args.x.now at.0.first at.0.count c.requires.x_within) (run_read c.args.y.now at.1.first at.1.count c.requires.y_within) in
     record {
       made = c.apply_to_two.new.x ∷ c.apply_to_two.new.y ∷ [];
-      is = c.apply_to_two.ensures ∙ ap2 (λ (k : ℤ) ls. results task.kernel k (c.args.shapes.0 ∷ c.args.shapes.1 ∷ []) ls) (to_z-of_z w64 task.scalar fits) read;
+      is = c.apply_to_two.ensures.results ∙ ap2 (λ (k : ℤ) ls. results task.kernel k (c.args.shapes.0 ∷ c.args.shapes.1 ∷ []) ls) (to_z-of_z w64 task.scalar fits) read;
       filled = (x_long ∙ c.requires.x_filled, (y_long ∙ c.requires.y_filled, tt));
       put = ap2 (λ l r. l ∷ r ∷ []) (run_made c.args.x.now c.apply_to_two.new.x at.0.first at.0.count x_long c.requires.x_within) (run_made c.args.y.now c.apply_to_two.new.y at.1.first at.1.count y_long c.requires.y_within);
     }

@@ -1,6 +1,7 @@
 use Rattle.std.proofs.Common.{rules}
 use Rattle.dd_views.proofs.PositionsLemmas.{positions_of_run}
-use Rattle.dd_plain.proofs.WalkLemmas.{one_step, run_within}
+use Rattle.dd_plain.proofs.WalkLemmas.{run_within}
+use Rattle.dd_lists.proofs.SignedLemmas.{one_step}
 use Rattle.dd_plain.proofs.gathering.gather_column.Goals as goal
 
 pub gather_run-requires : goal.gather_run-requires

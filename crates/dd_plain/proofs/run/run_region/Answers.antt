@@ -7,12 +7,12 @@ use Rattle.dd_meaning.specs.Text.{regions_above}
 use Rattle.dd_meaning.specs.Versions.{tasks_through}
 use Rattle.dd_kernels.proofs.ListsLemmas.{ap2}
 use Rattle.dd_plain.specs.Lists.{lists_of}
-use Rattle.dd_plain.specs.RegionRows.{RunsAt}
+use Rattle.dd_meaning.specs.RegionRows.{RunsAt}
 use Rattle.dd_plain.specs.Sizes.{HasSizes}
 use Rattle.dd_meaning.proofs.RegionTasksLemmas.{region_next}
 use Rattle.dd_meaning.proofs.RegionRowsLemmas.{runs_next}
 use Rattle.dd_plain.proofs.RegionLemmas.{sum_with, tasks_can_run}
-use Rattle.dd_plain.proofs.StepLemmas.{items_written}
+use Rattle.dd_lists.proofs.VectorsLemmas.{items_written}
 use Rattle.dd_plain.proofs.run.run_region.Goals as goal
 
 pub run_tasks-requires-clause-can : goal.run_tasks-requires-clause-can

@@ -6,12 +6,16 @@ use Rattle.dd_causes.specs.Appended.{AppendsAllBut}
 use Rattle.dd_causes.proofs.AppendedLemmas.{all_but_more, all_but_start, front_in_piece}
 use Rattle.dd_causes.proofs.CountsLemmas.{anyway_on_err}
 use Rattle.dd_meaning.specs.Text.{row_text, text_of}
+use Rattle.dd_meaning.proofs.TextLemmas.{text_of_rows}
 use Rattle.dd_plain.proofs.PrintingLemmas.{next_left}
 use Rattle.dd_plain.proofs.run.run_rows.Goals as goal
 
 pub loop-i-init : goal.loop-i-init
 loop-i-init g c = record {
-  written = let none : length c.args.plan.now.statements - 0 ≡ length c.args.plan.now.statements = omega arith in subst (λ n. AppendsAllBut (g.O.Sink.taken c.args.out.now) (g.O.Sink.taken c.args.out.now) (flat_map (row_text c.args.plan.now) (range_with_len 0 n)) (text_of c.args.plan.now)) (sym none) (all_but_start _ _);
+  written =
+      let none : length c.args.plan.now.statements - 0 ≡ length c.args.plan.now.statements = omega arith in
+      let start = subst (λ n. AppendsAllBut (g.O.Sink.taken c.args.out.now) (g.O.Sink.taken c.args.out.now) (flat_map (row_text c.args.plan.now) (range_with_len 0 n)) (flat_map (row_text c.args.plan.now) (range_with_len 0 (length c.args.plan.now.statements)))) (sym none) (all_but_start _ _) in
+      subst (λ text. AppendsAllBut (g.O.Sink.taken c.args.out.now) (g.O.Sink.taken c.args.out.now) (flat_map (row_text c.args.plan.now) (range_with_len 0 (length c.args.plan.now.statements - 0))) text) (sym (text_of_rows c.args.plan.now)) start;
   ran = c.requires.begun;
   kept = refl;
 }

@@ -1,7 +1,8 @@
 use Rattle.std.proofs.Common.{◌+◌, ◌-◌, ◌++◌, take, drop, length, ap, ◌∙◌, rules, arith}
 use Rattle.std.proofs.lemmas.List.{take_all}
 use Rattle.std.proofs.lemmas.Slice.{put_mid-paste}
-use Rattle.dd_plain.proofs.WalkLemmas.{one_step, run_within, run_stored}
+use Rattle.dd_plain.proofs.WalkLemmas.{run_within, run_stored}
+use Rattle.dd_lists.proofs.SignedLemmas.{one_step}
 use Rattle.dd_plain.proofs.storing.store_column.Goals as goal
 
 pub returns-then-column-eq1 : goal.returns-then-column-eq1

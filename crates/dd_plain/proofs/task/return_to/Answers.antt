@@ -7,7 +7,7 @@ use Rattle.dd_blocks.specs.Tasks.{shape_in}
 use Rattle.dd_blocks.specs.Numbered.{numbered, no_array}
 use Rattle.dd_meaning.specs.Steps.{put_at}
 use Rattle.dd_plain.specs.Lists.{lists_of}
-use Rattle.dd_plain.proofs.StepLemmas.{items_written}
+use Rattle.dd_lists.proofs.VectorsLemmas.{items_written}
 use Rattle.dd_plain.proofs.TaskLemmas.{holds_values}
 use Rattle.dd_plain.proofs.task.return_to.Goals as goal
 

@@ -2,7 +2,8 @@ use Rattle.std.proofs.Common.{length, sym, ap, ◌∙◌}
 use Rattle.std.proofs.lemmas.List.{length-map}
 use Rattle.dd_plain.specs.Lending.{AreHeld, is_lent}
 use Rattle.dd_plain.specs.Lists.{lists_of}
-use Rattle.dd_plain.proofs.StepLemmas.{are_held, items_written, length_without_all, step_sizes, still_held, task_stepped, there}
+use Rattle.dd_plain.proofs.StepLemmas.{are_held, length_without_all, step_sizes, still_held, task_stepped, there}
+use Rattle.dd_lists.proofs.VectorsLemmas.{items_written}
 use Rattle.dd_plain.proofs.SizesLemmas.{as_many}
 use Rattle.dd_plain.proofs.task.run_held.Goals as goal
 

@@ -4,7 +4,7 @@ use Rattle.std.specs.List.Sorted.{IsNonDecreasingBy}
 use Rattle.std.proofs.lemmas.List.{take_rest}
 use Rattle.std.proofs.lemmas.List.Sorted.{IsPartitionPoint-from_clause, IsPartitionedBy-leb, IsPartitionedBy-ltb}
 use Rattle.dd_blocks.specs.declared.task_row.TaskRow.{TaskRow}
-use Rattle.dd_plain.proofs.MovesRunsLemmas.{rises_rest, run_is}
+use Rattle.dd_lists.proofs.PartitionLemmas.{rises_rest, run_is}
 use Rattle.dd_plain.proofs.tasks.tasks_of.Goals as goal
 
 pub returns : goal.returns

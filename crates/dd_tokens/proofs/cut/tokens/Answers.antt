@@ -1,6 +1,8 @@
 use Rattle.std.proofs.Common.{◌≡◌, Ok, ◌+◌, ◌++◌, ◌∷◌, [], length, length-append, arith, ap, ◌∙◌, rules}
 use Rattle.std.proofs.lemmas.List.{take_rest, length-drop}
+use Rattle.dd_tokens.specs.Bytes.{before_comment}
 use Rattle.dd_tokens.specs.Tokens.{AreTokensOf}
+use Rattle.dd_tokens.proofs.CuttingLemmas.{are_cutting, cutting_are}
 use Rattle.dd_tokens.proofs.TokensLemmas.{cut_more, cut_all, one_cutting, tokens_of_line_in}
 use Rattle.dd_tokens.proofs.cut.tokens.Goals as goal
 
@@ -26,6 +28,12 @@ returns-clause-cut c = (search rules, all_cut c)
 
 pub returns-clause-only : goal.returns-clause-only
 returns-clause-only c = λ us are. one_cutting 0 _ us _ are (all_cut c)
+
+pub returns-clause-pieces : goal.returns-clause-pieces
+returns-clause-pieces c = are_cutting (before_comment c.args.line.now) _ (all_cut c)
+
+pub returns-clause-no_others : goal.returns-clause-no_others
+returns-clause-no_others c = λ us are. one_cutting 0 _ us _ (cutting_are _ us are) (all_cut c)
 
 pub returns-clause-inside : goal.returns-clause-inside
 returns-clause-inside c = tokens_of_line_in c.args.line.now _ (all_cut c)

@@ -1,5 +1,5 @@
 use Rattle.std.proofs.lemmas.List.Elements.{All-push, All-same}
-use Rattle.dd_place.specs.Premises.{IsOfPlan}
+use Rattle.dd_blocks.specs.OfPlan.{IsOfPlan}
 use Rattle.tests_of_arrays.proofs.placements.accesses_of.Goals.{in-Some+in_ok-push-in-Some, in-None+else-assert}
 use Rattle.tests_of_arrays.proofs.placements.accesses_of.Goals as goal
 

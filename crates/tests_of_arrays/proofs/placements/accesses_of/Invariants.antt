@@ -1,5 +1,5 @@
 use Rattle.std.specs.List.{All}
-use Rattle.dd_place.specs.Premises.{IsOfPlan}
+use Rattle.dd_blocks.specs.OfPlan.{IsOfPlan}
 use Rattle.tests_of_arrays.proofs.placements.accesses_of.Given as goal
 
 abbrev pub invariant-loop-piece : goal.invariant-loop-piece

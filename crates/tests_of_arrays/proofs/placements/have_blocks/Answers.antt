@@ -1,7 +1,7 @@
 use Rattle.std.proofs.Common.{sym}
 use Rattle.std.proofs.lemmas.List.{take_all}
 use Rattle.std.proofs.lemmas.List.Elements.{All-more, All-same}
-use Rattle.dd_place.specs.Premises.{HasBlocks}
+use Rattle.dd_blocks.specs.OfPlan.{HasBlocks}
 use Rattle.tests_of_arrays.proofs.placements.have_blocks.Goals as goal
 
 pub loop-array-preserved : goal.loop-array-preserved

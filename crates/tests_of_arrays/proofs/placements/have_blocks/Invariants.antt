@@ -1,6 +1,6 @@
 use Rattle.std.proofs.Common.{take}
 use Rattle.std.specs.List.{All}
-use Rattle.dd_place.specs.Premises.{HasBlocks}
+use Rattle.dd_blocks.specs.OfPlan.{HasBlocks}
 use Rattle.tests_of_arrays.proofs.placements.have_blocks.Given as goal
 
 abbrev pub invariant-loop-array : goal.invariant-loop-array

@@ -1,6 +1,0 @@
-use Rattle.dd_plain.specs.declared.moves.mark.Visit.TheVariants.{Read}
-use Rattle.dd_plain.proofs.MovesColumnsLemmas.{IsPassed}
-use Rattle.dd_plain.proofs.moves.mark.read_marks.Given as goal
-
-abbrev pub invariant-loop-mark : goal.invariant-loop-mark
-invariant-loop-mark l = IsPassed (Read l.space) l.home l.mark-index l.fn.marks l.marks l.moved

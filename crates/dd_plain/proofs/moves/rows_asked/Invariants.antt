@@ -1,6 +1,0 @@
-use Rattle.std.proofs.Common.{drop}
-use Rattle.dd_plain.specs.MovesRest.{NoneAsks}
-use Rattle.dd_plain.proofs.moves.rows_asked.Given as goal
-
-abbrev pub invariant-loop-i : goal.invariant-loop-i
-invariant-loop-i l = NoneAsks (drop l.i l.rows)

@@ -1,8 +1,0 @@
-use Rattle.std.proofs.Common.{take}
-use Rattle.std.specs.List.{flat_map}
-use Rattle.dd_plain.specs.declared.moves.mark.Visit.TheVariants.{Leave}
-use Rattle.dd_plain.specs.MovesVisits.{Visited, visits_by}
-use Rattle.dd_plain.proofs.moves.walk.leave_tasks.Given as goal
-
-abbrev pub invariant-loop-task : goal.invariant-loop-task
-invariant-loop-task l = Visited (flat_map (visits_by l.plan l.homes Leave) (take l.task-index l.tasks)) l.fn.marks l.marks l.moved

@@ -1,7 +1,0 @@
-use Rattle.std.proofs.Common.{take}
-use Rattle.std.specs.List.{flat_map}
-use Rattle.dd_plain.specs.MovesVisits.{Visited, task_visits}
-use Rattle.dd_plain.proofs.moves.walk.visit_tasks.Given as goal
-
-abbrev pub invariant-loop-task : goal.invariant-loop-task
-invariant-loop-task l = Visited (flat_map (task_visits l.plan l.homes) (take l.task-index l.tasks)) l.fn.marks l.marks l.moved

@@ -1,0 +1,13 @@
+pub mod LayoutLemmas
+pub mod HomesLemmas
+pub mod VisitsLemmas
+pub mod MarksLemmas
+pub mod ElementLemmas
+pub mod HistoryLemmas
+pub mod TasksLemmas
+pub mod RegionsLemmas
+pub mod VersionsLemmas
+pub mod PlanLemmas
+pub mod MovedLemmas
+pub mod OneSpaceLemmas
+pub mod ColumnsLemmas

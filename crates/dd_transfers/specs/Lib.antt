@@ -1,0 +1,4 @@
+pub mod Homes
+pub mod Marks
+pub mod Visits
+pub mod Rest
