@@ -28,5 +28,5 @@ pub(crate) fn grid_at(draft: &Draft, array: u32) -> Grid
     ensures grid { IsGrid result }
     ensures few { element_count result ≤ elements_limit }
 {
-    draft.plan.arrays.as_slice()[array as usize - 1].grid
+    draft.plan.array(array).grid
 }
