@@ -5,4 +5,5 @@ pub mod Moves
 pub mod Text
 pub mod Values
 pub mod Written
+pub mod Lists
 pub mod RegionRows

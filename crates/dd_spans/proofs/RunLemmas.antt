@@ -83,7 +83,7 @@ range_contains a n m le lt =
     let at : get_or (range_with_len a n) (m - a) m ≡ m = get_or-range_with_len a n (m - a) m (omega arith) ∙ omega arith in
     (m - a, within, at)
 
-range_rises : (a n : ℕ) → IsStrictlyIncreasing (range_with_len a n)
+pub range_rises : (a n : ℕ) → IsStrictlyIncreasing (range_with_len a n)
 range_rises a n k lt =
     let size = length-range_with_len a n in
     omega (arith, get_or-range_with_len a n k 0 (omega (arith, size, lt)), get_or-range_with_len a n (k + 1) 0 (omega (arith, size, lt)))
@@ -129,12 +129,7 @@ some_left ns from first count run all =
     let lt = All-contains (λ n. n < from) ns first all (run.run first (omega arith) (omega (arith, run.some))) in
     omega (arith, lt, run.reached)
 
--- numbers that follow each other rise, and those that end below 2^64 are below 2^64 - 1
-pub run_rises : (first count : ℕ) → IsStrictlyIncreasing (range_with_len first count)
-run_rises first count k lt =
-    let long = length-range_with_len first count in
-    omega (arith, lt, long, get_or-range_with_len first count k 0 (omega (arith, lt, long)), get_or-range_with_len first count (k + 1) 0 (omega (arith, lt, long)))
-
+-- numbers that follow each other and end below 2^64 are below 2^64 - 1
 pub run_below : (first count : ℕ) → first + count < 2 ^ 64 → All (λ n. n < 2 ^ 64 - 1) (range_with_len first count)
 run_below first count fits k d lt =
     let long = length-range_with_len first count in

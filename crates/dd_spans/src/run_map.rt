@@ -1,5 +1,5 @@
 //! A small number for each place.
-ghost use Rattle.std.specs.Prelude.{◌≡◌, ◌≢◌, ℕ, ◌+◌, ◌<◌, ◌≤◌, length, replicate, slice_index, nat_le, nat_lt, ◌&&◌, if◌then◌else◌, IfOk, OnOk};
+ghost use Rattle.std.specs.Prelude.{◌≡◌, ◌≢◌, ℕ, ◌+◌, ◌<◌, ◌≤◌, length, replicate, slice_index, slice_set, nat_le, nat_lt, ◌&&◌, if◌then◌else◌, IfOk, OnOk};
 ghost use Rattle.std.specs.List.{AllWithin};
 ghost use Rattle.dd_spans.specs.PlaceMap.{with_run};
 
@@ -93,6 +93,15 @@ impl RunMap {
     {
         self.spare = self.spare.max(runs);
         Ok(())
+    }
+
+    /// Sets one place. It takes no memory, and leaves the spare.
+    pub fn set(&mut self, place: u64, value: u32)
+        requires { place < length self.old.list }
+        ensures { self.new ≡ record self.old { list = slice_set self.old.list place value } }
+    {
+        let at = place as usize;
+        self.values[at] = value;
     }
 
     /// Sets `count` places from `first` on. It takes no memory: it uses up to two of the spare runs.

@@ -51,6 +51,11 @@ impl Runs {
         Ok(Runs { numbers })
     }
 
+    /// The allocator that the numbers are kept with.
+    pub fn allocator(&self) -> Global {
+        *self.numbers.allocator()
+    }
+
     /// How many numbers there are.
     pub fn len(&self) -> u64
         ensures { result ≡ length self.now.list }

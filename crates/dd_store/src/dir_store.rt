@@ -28,6 +28,13 @@ impl<R> Model for DirSlot<R> {
 }
 
 impl<R: Files> DirSlot<R> {
+    /// How many of its calls failed.
+    pub fn faults(&self) -> u64
+        ensures { result ≡ self.now }
+    {
+        self.faults
+    }
+
     // Adds bytes at the end of the file. A file that isn't there is an error, and not made.
     fn write_end(&self, bytes: &[u8]) -> io::Result<()> {
         let mut file = OpenOptions::new()
@@ -104,6 +111,20 @@ impl<R: Files + Clone + Drop + Send> DirStore<R> {
 }
 
 impl<R: Files + Drop> DirStore<R> {
+    /// How many slots it has made.
+    pub fn made(&self) -> u64
+        ensures { result ≡ self.now.made }
+    {
+        self.made
+    }
+
+    /// How many faults it has counted, with those of the slots that it ended.
+    pub fn faults(&self) -> u64
+        ensures { result ≡ self.now.faults }
+    {
+        self.faults
+    }
+
     // The file of the next slot.
     fn next_path(&self) -> Result<PathBuf, AllocError> {
         let number = self.made;

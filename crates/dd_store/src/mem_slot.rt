@@ -78,8 +78,15 @@ impl MemSlot {
         }
     }
 
+    /// The bytes in it.
+    pub fn bytes(&self) -> &[u8]
+        ensures { result.now ≡ self.now.bytes }
+    {
+        &self.bytes
+    }
+
     /// How many of its calls failed.
-    pub(crate) fn faults(&self) -> u64
+    pub fn faults(&self) -> u64
         ensures { result ≡ self.now.faults }
     {
         self.faults

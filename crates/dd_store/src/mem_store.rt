@@ -48,6 +48,20 @@ impl MemStore {
         }
     }
 
+    /// How many slots it has made.
+    pub fn made(&self) -> u64
+        ensures { result ≡ self.now.made }
+    {
+        self.made
+    }
+
+    /// How many faults it has counted, with those of the slots that it ended.
+    pub fn faults(&self) -> u64
+        ensures { result ≡ self.now.faults }
+    {
+        self.faults
+    }
+
     // What the next slot shares with the others. Where memory is wanting, nothing is lost: the next call tries again.
     fn slot_calls(&mut self) -> Result<Arc<SlotCalls, Global>, AllocError>
         ensures same { self.new ≡ self.old }

@@ -60,6 +60,13 @@ impl NeverFails {
     {
         NeverFails { alloc, made: 0 }
     }
+
+    /// How many slots it has made.
+    pub fn made(&self) -> u64
+        ensures { result ≡ self.now }
+    {
+        self.made
+    }
 }
 
 impl Store for NeverFails {

@@ -3,6 +3,7 @@
 //! This crate has tests alone, and no other crate stands on it. Whole scripts that print or are refused stand in the tables
 //! of `tests/`, which the built program runs; here are ends that give and take few bytes, fail, or are called once too
 //! often, and what of a Plan no output shows. `memory_runs` has a run over a source and sinks in memory.
+//! `damage` runs some thousand scripts: `rt test` builds it, and `rt try` takes too long for it.
 #![tactic(auto)]
 
 #[cfg(test)]

@@ -1,0 +1,4 @@
+mod SetLemmas
+mod FinishLemmas
+mod RowsLemmas
+mod PlacesLemmas

@@ -1,0 +1,3 @@
+pub mod Currents
+pub mod Sets
+pub mod Asked

@@ -1,0 +1,13 @@
+pub mod Computing
+pub mod RowPlan
+mod RowExamples
+pub mod RowLegal
+pub mod RowWellFormed
+pub mod ChangesLemmas
+pub mod RangesLemmas
+pub mod RunsLemmas
+pub mod PropsLemmas
+pub mod ProgressLemmas
+pub mod TestsLemmas
+pub mod TotalsLemmas
+pub mod CalmLemmas

@@ -1,0 +1,3 @@
+mod PiecesLemmas
+mod BlocksLemmas
+mod RowsLemmas

@@ -1,0 +1,14 @@
+use Rattle.std.proofs.Common.{◌%◌, refl, ap, sym, ◌∙◌, arith}
+use Rattle.dd_machine.specs.Owed.{blocks_of, put_there}
+use Rattle.dd_owed.proofs.PiecesLemmas.{get_piece, in_piece}
+use Rattle.dd_owed.proofs.events.put_event.Goals as goal
+
+pub returns-in-Some-clause-value : goal.returns-in-Some-clause-value
+returns-in-Some-clause-value c =
+    let f = put_there c.args.plan.now c.args.row in
+    c.put_at.ensures ∙ sym (get_piece f (blocks_of c.args.plan.now c.args.array) 3 c.args.i (omega arith) (λ x. refl) ∙ ap (in_piece f (c.args.i % 3)) (sym c.block_at.ensures.value ∙ c.in-Some.is))
+
+pub returns-in-None-clause-value : goal.returns-in-None-clause-value
+returns-in-None-clause-value c =
+    let f = put_there c.args.plan.now c.args.row in
+    sym (get_piece f (blocks_of c.args.plan.now c.args.array) 3 c.args.i (omega arith) (λ x. refl) ∙ ap (in_piece f (c.args.i % 3)) (sym c.block_at.ensures.value ∙ c.in-None.is))

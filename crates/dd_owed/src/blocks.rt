@@ -1,0 +1,79 @@
+//! The blocks of an array, by their places in the lists that statements go through. Places are from 0.
+ghost use Rattle.std.specs.Prelude.{◌≡◌, ◌<◌, slice_get, IfSome};
+ghost use Rattle.dd_blocks.specs.Limits.{blocks_limit};
+ghost use Rattle.dd_blocks.specs.Numbered.{IsNumberIn, array_row};
+ghost use Rattle.dd_blocks.specs.WellFormed.{IsWellFormed};
+ghost use Rattle.dd_machine.specs.Owed.{blocks_by_rows, blocks_elsewhere, blocks_of};
+
+use dd_blocks::{ArrayRow, Plan};
+
+/// The row of an array.
+fn array_row(plan: &Plan, array: u32) -> ArrayRow
+    requires { IsNumberIn plan.now.arrays array }
+    ensures { result ≡ array_row plan.now array }
+{
+    plan.arrays.as_slice()[array as usize - 1]
+}
+
+/// The block at a place, rising.
+pub(crate) fn block_at(plan: &Plan, array: u32, i: u32) -> Option<u32>
+    requires well { IsWellFormed plan.now }
+    requires array { IsNumberIn plan.now.arrays array }
+    ensures value { result ≡ slice_get (blocks_of plan.now array) i }
+    ensures known { IfSome result (IsNumberIn plan.now.blocks) }
+    ensures few { IfSome result (λ _. i < blocks_limit) }
+{
+    let row = array_row(plan, array);
+    if u64::from(i) < row.grid.blocks() {
+        Some(row.first_block + i)
+    } else {
+        None
+    }
+}
+
+/// The block at a place where the blocks go row by row of blocks, each from the left.
+pub(crate) fn block_by_rows_at(plan: &Plan, array: u32, i: u32) -> Option<u32>
+    requires well { IsWellFormed plan.now }
+    requires array { IsNumberIn plan.now.arrays array }
+    ensures value { result ≡ slice_get (blocks_by_rows plan.now array) i }
+    ensures known { IfSome result (IsNumberIn plan.now.blocks) }
+    ensures few { IfSome result (λ _. i < blocks_limit) }
+{
+    let row = array_row(plan, array);
+    let high = row.grid.rows.div_ceil(row.grid.brows);
+    let wide = row.grid.cols.div_ceil(row.grid.bcols);
+    if i / wide < high {
+        Some(row.first_block + (i % wide * high + i / wide))
+    } else {
+        None
+    }
+}
+
+/// The block at a place among those whose home before the row is another space.
+pub(crate) fn block_elsewhere_at(
+    plan: &Plan,
+    row: u32,
+    array: u32,
+    space: u32,
+    i: u32,
+) -> Option<u32>
+    requires well { IsWellFormed plan.now }
+    requires row { IsNumberIn plan.now.statements row }
+    requires array { IsNumberIn plan.now.arrays array }
+    ensures value { result ≡ slice_get (blocks_elsewhere plan.now row array space) i }
+    ensures known { IfSome result (IsNumberIn plan.now.blocks) }
+    ensures few { IfSome result (λ _. i < blocks_limit) }
+{
+    let found = array_row(plan, array);
+    let mut left = i;
+    for j in 0..found.grid.blocks() {
+        let block = found.first_block + j as u32;
+        if plan.home_before(row, block) != space {
+            if left == 0 {
+                return Some(block);
+            }
+            left -= 1;
+        }
+    }
+    None
+}

@@ -1,0 +1,5 @@
+pub mod CellsLemmas
+pub mod PlacesLemmas
+pub mod HeldLemmas
+pub mod PlanLemmas
+pub mod SpilledLemmas

@@ -1,0 +1,34 @@
+-- A copy was changed in its place, by the copy of its block in another.
+use Rattle.std.proofs.Common.{◌≢◌, Some, rules, refl, sym, ap, ◌∙◌}
+use Rattle.dd_pool.specs.Cells.{cell}
+use Rattle.dd_pool.proofs.PlacesLemmas.{same_place}
+use Rattle.dd_pool.proofs.HeldLemmas.{at_place, elsewhere, kept_counted, not_gone, put_ours, refilled, value_at_place}
+use Rattle.dd_pool.proofs.copies.Copies.move_places.Goals as goal
+
+pub unreachable-requires-in_default-get : goal.unreachable-requires-in_default-get
+unreachable-requires-in_default-get c =
+    let plan = c.args.self.now.plan.now in
+    let apart : c.place_of-other_at.result ≢ c.place_of-at.result = λ e. c.requires.apart (same_place plan c.args.from c.args.block c.args.space c.args.block c.requires.from c.requires.place
+    (sym c.place_of-other_at.ensures.value ∙ e ∙ c.place_of-at.ensures.value)).0 in
+    not_gone _ c.requires.other (ap (cell c.args.self.now.cells) (sym c.place_of-other_at.ensures.value) ∙ sym (c.in-Some.ensures.left.others c.place_of-other_at.result apart) ∙ sym c.in_default-get.ensures)
+
+pub invariant_of-self : goal.invariant_of-self
+invariant_of-self c =
+    let plan = c.args.self.now.plan.now in
+    let has = at_place plan _ _ c.args.space c.args.block _ _ (Some c.take_from.new.self) refl c.place_of-at.ensures.value (refilled _ _ _ _ _ c.in-Some.ensures.left c.put_back.ensures.put) in
+    let there = value_at_place c.args.self.now.cells _ _ _ c.place_of-at.ensures.value c.in-Some.ensures.value in
+    let mine = c.args.self.now.ours c.args.space c.args.block c.in-Some.copy c.requires.place there in
+    record {
+      few = search rules;
+      light = search rules;
+      wide = search rules;
+      spaces = search rules;
+      ours = put_ours c.args.self.now.plan _ _ c.args.space c.args.block c.take_from.new.self c.requires.place has c.args.self.now.ours (c.take_from.ensures.kept.plan ∙ mine.0) (c.take_from.ensures.kept.block ∙ mine.1);
+      counted = kept_counted plan _ _ c.args.space c.args.block c.in-Some.copy c.take_from.new.self c.args.self.now.sizes.items c.requires.place there has c.args.self.now.counted;
+    }
+
+pub returns-clause-others : goal.returns-clause-others
+returns-clause-others c =
+    let plan = c.args.self.now.plan.now in
+    let has = at_place plan _ _ c.args.space c.args.block _ _ (Some c.take_from.new.self) refl c.place_of-at.ensures.value (refilled _ _ _ _ _ c.in-Some.ensures.left c.put_back.ensures.put) in
+    elsewhere plan _ _ c.args.space c.args.block (Some c.take_from.new.self) c.requires.place has

@@ -1,0 +1,13 @@
+use Rattle.std.proofs.Common.{None, refl}
+use Rattle.dd_pool.proofs.HeldLemmas.{at_place, elsewhere_of}
+use Rattle.dd_pool.proofs.pool.Pool.take_out.Goals as goal
+
+pub returns-clause-left : goal.returns-clause-left
+returns-clause-left g c =
+    let plan = c.args.self.now.plan.now in
+    let has = at_place plan _ _ c.args.space c.args.block _ _ None refl c.place_of.ensures.value c.take.ensures.left in
+    record {
+      here = has.here;
+      others = elsewhere_of plan _ _ c.args.space c.args.block None c.requires has;
+      rest = record { plan = refl; copies = refl; names = refl };
+    }

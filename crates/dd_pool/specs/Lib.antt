@@ -1,0 +1,7 @@
+pub mod Keys
+pub mod Cells
+pub mod Places
+pub mod Held
+pub mod Copies
+pub mod Spilled
+pub mod Pools

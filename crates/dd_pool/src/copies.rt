@@ -1,0 +1,165 @@
+ghost use Rattle.std.specs.Prelude.{◌≡◌, ◌+◌, ◌-◌, ◌^◌, ◌<◌, ◌≤◌, length, slice_index, slice_set};
+ghost use Rattle.dd_blocks.specs.Numbered.{IsNumberIn};
+ghost use Rattle.dd_pool.specs.Held.{AreCounted, AreOurs, AreOurs-prop};
+ghost use Rattle.dd_pool.specs.Places.{bytes_of_blocks, cell_count};
+
+use crate::cells::Cells;
+use crate::places::{bytes_of, cell_count, place_of};
+use dd_blocks::Plan;
+use dd_spans::Runs;
+use dd_stamps::Stamped;
+use std::alloc::{AllocError, Global};
+
+/// The copies in the memory of each space: at most one of each block, each of the Plan.
+#[derive(Drop)]
+pub(crate) struct Copies<'p> {
+    pub(crate) plan: &'p Plan,
+    pub(crate) cells: Cells<Stamped<'p>>,
+    // The bytes of the copies of each space.
+    pub(crate) sizes: Vec<u64>,
+    ghost few: { cell_count plan.now < 2 ^ 63 },
+    ghost light: { bytes_of_blocks plan.now < 2 ^ 64 },
+    ghost wide: { length cells.keys.items ≡ cell_count plan.now },
+    ghost spaces: { length sizes.items ≡ length plan.now.spaces },
+    ghost ours: { AreOurs plan cells } by { AreOurs-prop plan cells },
+    ghost counted: { AreCounted plan.now cells sizes.items },
+}
+
+impl<'p> Copies<'p> {
+    ghost use Rattle.std.specs.Prelude.{◌≢◌, ℕ, Some, None, IfOk, OnOk, IfErr, OnErr, IsSome, IsSomeAnd, option_copied};
+    ghost use Rattle.dd_stamps.specs.Copies.{MayTake, TakesFrom};
+    ghost use Rattle.dd_pool.specs.Copies.{HasRoomFor, Holds, HoldsSame, held_at, held_bytes};
+    ghost use Rattle.dd_pool.specs.Keys.{AreBoth, AreThree};
+    ghost use Rattle.dd_pool.specs.Places.{IsPlace};
+
+    /// No copies.
+    ///
+    /// # Errors
+    /// Want of memory.
+    pub(crate) fn new(alloc: Global, plan: &'p Plan) -> Result<Copies<'p>, AllocError>
+        requires few { cell_count plan.now < 2 ^ 63 }
+        requires light { bytes_of_blocks plan.now < 2 ^ 64 }
+        ensures plan { IfOk result (λ c. c.plan ≡ plan.entry) }
+        ensures none { IfOk result (λ c. (s b : ℕ) → held_at c s b ≡ None) }
+    {
+        Ok(Copies {
+            plan,
+            cells: Cells::new(alloc, cell_count(plan))?,
+            sizes: vec![in alloc; 0; plan.spaces.as_slice().len()]?,
+        })
+    }
+
+    /// The copy of a block in the memory of a space.
+    pub(crate) fn get(&self, space: u32, block: u32) -> Option<&Stamped<'p>>
+        requires { IsPlace self.now.plan.now space block }
+        ensures { option_copied result ≡ held_at self.now space block }
+    {
+        self.cells.get(place_of(self.plan, space, block))
+    }
+
+    /// The bytes of the copies of a space.
+    pub(crate) fn bytes(&self, space: u32) -> u64
+        requires { IsNumberIn self.now.plan.now.spaces space }
+        ensures { result ≡ held_bytes self.now space }
+    {
+        self.sizes[space as usize - 1]
+    }
+
+    /// Puts a copy into the memory of a space that has none of its block.
+    ///
+    /// # Errors
+    /// Want of memory. The copy comes back, and all is as before.
+    pub(crate) fn put(&mut self, space: u32, copy: Stamped<'p>) -> Result<(), Stamped<'p>>
+        requires plan { copy.plan ≡ self.old.plan }
+        requires place { IsPlace self.old.plan.now space copy.block }
+        requires none { held_at self.old space copy.block ≡ None }
+        ensures ok { OnOk result (Holds self.old self.new space copy.entry.block (Some copy.entry)) }
+        ensures err { OnErr result (HoldsSame self.old self.new) }
+        ensures back { IfErr result (λ c. c ≡ copy.entry) }
+    {
+        let block = copy.block();
+        let at = place_of(self.plan, space, block);
+        let bytes = bytes_of(self.plan, block);
+        match self.cells.put(at, copy) {
+            Ok(()) => {
+                add(&mut self.sizes, space, bytes);
+                Ok(())
+            }
+            Err(copy) => Err(copy),
+        }
+    }
+
+    /// Takes a copy out of the memory of a space, where there is one.
+    pub(crate) fn take(&mut self, space: u32, block: u32) -> Option<Stamped<'p>>
+        requires { IsPlace self.old.plan.now space block }
+        ensures value { result ≡ held_at self.old space block }
+        ensures left { Holds self.old self.new space block None }
+    {
+        let at = place_of(self.plan, space, block);
+        let bytes = bytes_of(self.plan, block);
+        match self.cells.take(at) {
+            Some(copy) => {
+                lower(&mut self.sizes, space, bytes);
+                Some(copy)
+            }
+            None => None,
+        }
+    }
+
+    /// Some places of a copy take what another has.
+    pub(crate) fn take_places(&mut self, space: u32, block: u32, other: &Stamped<'p>, places: &Runs)
+        requires place { IsPlace self.old.plan.now space block }
+        requires there { IsSomeAnd (held_at self.old space block) (λ c. MayTake c other.now places.now.list) }
+        ensures taken { AreBoth (λ c d. TakesFrom c other.now d places.now.list) (held_at self.old space block) (held_at self.new space block) }
+        ensures others { (s b : ℕ) → IsPlace self.old.plan.now s b → (s ≡ space → b ≡ block → ⊥) → held_at self.new s b ≡ held_at self.old s b }
+        ensures plan { self.new.plan ≡ self.old.plan }
+    {
+        let at = place_of(self.plan, space, block);
+        let Some(mut copy) = self.cells.take(at) else {
+            unreachable!()
+        };
+        copy.take_from(other, places);
+        self.cells.put_back(at, copy);
+    }
+
+    /// Some places of a copy take what the copy of the block in another space has.
+    pub(crate) fn move_places(&mut self, space: u32, block: u32, from: u32, places: &Runs)
+        requires place { IsPlace self.old.plan.now space block }
+        requires from { IsPlace self.old.plan.now from block }
+        requires apart { from ≢ space }
+        requires there { IsSomeAnd (held_at self.old space block) (λ c. HasRoomFor c places.now.list) }
+        requires other { IsSome (held_at self.old from block) }
+        ensures taken { AreThree (λ c other d. TakesFrom c other d places.now.list) (held_at self.old space block) (held_at self.old from block) (held_at self.new space block) }
+        ensures others { (s b : ℕ) → IsPlace self.old.plan.now s b → (s ≡ space → b ≡ block → ⊥) → held_at self.new s b ≡ held_at self.old s b }
+        ensures plan { self.new.plan ≡ self.old.plan }
+    {
+        let at = place_of(self.plan, space, block);
+        let other_at = place_of(self.plan, from, block);
+        let Some(mut copy) = self.cells.take(at) else {
+            unreachable!()
+        };
+        let Some(other) = self.cells.get(other_at) else {
+            unreachable!()
+        };
+        copy.take_from(other, places);
+        self.cells.put_back(at, copy);
+    }
+}
+
+// Adds bytes to the number of a space.
+fn add(sizes: &mut Vec<u64>, space: u32, bytes: u64)
+    requires space { IsNumberIn sizes.old.items space }
+    requires fits { slice_index sizes.old.items (space - 1) + bytes < 2 ^ 64 }
+    ensures { sizes.new.items ≡ slice_set sizes.old.items (space - 1) (slice_index sizes.old.items (space - 1) + bytes) }
+{
+    sizes[space as usize - 1] += bytes;
+}
+
+// Takes bytes off the number of a space.
+fn lower(sizes: &mut Vec<u64>, space: u32, bytes: u64)
+    requires space { IsNumberIn sizes.old.items space }
+    requires fits { bytes ≤ slice_index sizes.old.items (space - 1) }
+    ensures { sizes.new.items ≡ slice_set sizes.old.items (space - 1) (slice_index sizes.old.items (space - 1) - bytes) }
+{
+    sizes[space as usize - 1] -= bytes;
+}

@@ -1,0 +1,10 @@
+pub mod TakenLemmas
+pub mod CellsLemmas
+pub mod StoredLemmas
+pub mod Crossing
+pub mod ColumnsLemmas
+pub mod PieceLemmas
+pub mod PlacedLemmas
+pub mod GatheredLemmas
+pub mod StampsLemmas
+pub mod PutLemmas

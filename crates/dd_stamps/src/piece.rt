@@ -1,0 +1,111 @@
+//! The part of a view's column that stands in a block.
+ghost use Rattle.std.specs.Prelude.{◌≡◌, ◌≢◌, ◌↔◌, ℕ, ◌+◌, ◌*◌, ◌-◌, ◌^◌, ◌<◌, ◌≤◌, pos, ◌≤ℤ◌};
+ghost use Rattle.dd_views.specs.Positions.{position_in, stepped};
+ghost use Rattle.dd_blocks.specs.Grids.{IsGrid, block_count};
+ghost use Rattle.dd_stamps.specs.Columns.{IsColumnIn, IsPieceOf, place_at};
+
+use dd_blocks::Grid;
+use dd_views::Column;
+
+/// The elements of a column of a view that are in a block: by their numbers in the column, from 0, those from `from` on and
+/// below `end`. The array's position `low` has the place `place` in the block, and the ones above it the places behind.
+#[derive(Clone, Copy)]
+pub(crate) struct Piece {
+    pub from: usize,
+    pub end: usize,
+    pub low: u64,
+    pub place: usize,
+}
+
+/// The piece of a column in a block, whose number in the grid is from 0. It costs a few divisions.
+pub(crate) fn piece_of(grid: &Grid, block: u64, column: Column) -> Piece
+    requires grid { IsGrid grid.now }
+    requires block { block < block_count grid.now }
+    requires column { IsColumnIn grid.now column }
+    ensures { IsPieceOf grid.now block column result }
+{
+    let rows = u64::from(grid.rows);
+    let bcols = u64::from(grid.bcols);
+    let block_rows = u64::from(grid.rows.div_ceil(grid.brows));
+    let col = column.first / rows;
+    if col / bcols != block / block_rows {
+        return Piece {
+            from: 0,
+            end: 0,
+            low: 0,
+            place: 0,
+        };
+    }
+    let top = block % block_rows * u64::from(grid.brows);
+    let height = u64::from(grid.brows).min(rows - top);
+    let low = col * rows + top;
+    let (from, end) = between(column, low, low + height);
+    Piece {
+        from,
+        end,
+        low,
+        place: (col % bcols * height) as usize,
+    }
+}
+
+/// Which elements of a column stand from one position on and below another: those from the first answer on and below the
+/// second.
+fn between(column: Column, low: u64, high: u64) -> (usize, usize)
+    requires steps { column.step ≢ pos 0 }
+    requires small { column.first < 2 ^ 63 }
+    requires whole { (i : ℕ) → i < column.count → pos 0 ≤ℤ stepped column i }
+    requires order { low ≤ high }
+    requires fits { high < 2 ^ 64 }
+    ensures order { result.0 ≤ result.1 }
+    ensures few { result.1 ≤ column.count }
+    ensures inside { (i : ℕ) → result.0 ≤ i → i < result.1 → (low ≤ position_in column i) × (position_in column i < high) }
+    ensures others { (i : ℕ) → i < column.count → low ≤ position_in column i → position_in column i < high → (result.0 ≤ i) × (i < result.1) }
+{
+    let count = column.count as usize;
+    let step = column.step.unsigned_abs();
+    // A column that goes down reaches the higher position first.
+    let behind = column.first + 1;
+    let (before, until) = if column.step > 0 {
+        (low.saturating_sub(column.first), high.saturating_sub(column.first))
+    } else {
+        (behind.saturating_sub(high), behind.saturating_sub(low))
+    };
+    (steps_within(before, step).min(count), steps_within(until, step).min(count))
+}
+
+/// How many numbers of steps, from none on, stay below a way.
+fn steps_within(way: u64, step: u64) -> usize
+    requires { 0 < step }
+    ensures { (i : ℕ) → (i < result) ↔ (i * step < way) }
+{
+    if way == 0 {
+        0
+    } else {
+        ((way - 1) / step + 1) as usize
+    }
+}
+
+/// The place in the block of an element of a piece.
+pub(crate) fn place_of(column: Column, piece: Piece, i: usize) -> usize
+    requires small { column.first < 2 ^ 63 }
+    requires few { i < column.count }
+    requires whole { pos 0 ≤ℤ stepped column i }
+    requires inside { position_in column i < 2 ^ 63 }
+    requires low { piece.low ≤ position_in column i }
+    requires within { place_at column piece i < 2 ^ 64 }
+    ensures { result ≡ place_at column piece i }
+{
+    piece.place + (position_of(column, i) - piece.low) as usize
+}
+
+/// The position of an element of a column.
+fn position_of(column: Column, i: usize) -> u64
+    requires small { column.first < 2 ^ 63 }
+    requires few { i < column.count }
+    requires whole { pos 0 ≤ℤ stepped column i }
+    requires inside { position_in column i < 2 ^ 63 }
+    ensures { result ≡ position_in column i }
+{
+    let way = i as i64 * column.step;
+    (column.first as i64 + way) as u64
+}

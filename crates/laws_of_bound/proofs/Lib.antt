@@ -1,0 +1,12 @@
+pub mod SumsLemmas
+pub mod CopiesLemmas
+pub mod FetchLemmas
+pub mod RestLemmas
+pub mod WantsLemmas
+pub mod StateSteps
+pub mod MakeSteps
+pub mod CopySteps
+pub mod TaskSteps
+pub mod PinSteps
+pub mod Falls
+pub mod BeginLemmas

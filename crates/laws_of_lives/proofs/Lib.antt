@@ -1,0 +1,12 @@
+pub mod MadeLemmas
+pub mod LiveKept
+pub mod PlaceKept
+pub mod OutsideKept
+pub mod TasksKept
+pub mod EventsLemmas
+pub mod RowsLemmas
+pub mod RegionsLemmas
+pub mod OrderlyLemmas
+pub mod ElementsLemmas
+pub mod HomesOfRows
+pub mod LivesKept

@@ -1,0 +1,67 @@
+//! Laws over legal runs. Each is a function without arguments whose contract is the law.
+
+ghost use Rattle.std.specs.Prelude.{◌≡◌, ◌≤◌, ◌<◌, ◌+◌, ℕ, false, List, [], ◌∷◌, ◌++◌, Some};
+ghost use Rattle.dd_blocks.specs.declared.plan.Plan.{Plan};
+ghost use Rattle.dd_blocks.specs.WellFormed.{IsWellFormed};
+ghost use Rattle.dd_meaning.specs.Moves.{moved};
+ghost use Rattle.dd_machine.specs.declared.entry.Entry.{Entry};
+ghost use Rattle.dd_machine.specs.declared.event.Event.TheVariants.{Begin, Close, Pick};
+ghost use Rattle.dd_machine.specs.Bytes.{load, resident, victim};
+ghost use Rattle.dd_machine.specs.Carriage.{IsCarriage, Step, sends};
+ghost use Rattle.dd_machine.specs.Closed.{IsAtHome};
+ghost use Rattle.dd_machine.specs.GoesOn.{GoOn};
+ghost use Rattle.dd_machine.specs.Roomy.{AllRoomy};
+ghost use Rattle.dd_machine.specs.Runs.{IsLegalRun, IsWholeRun, has_pick, state_of_run};
+ghost use Rattle.dd_machine.specs.Sound.{IsSound};
+ghost use Rattle.dd_machine.specs.Words.{IsOneOf, limit, spaces};
+
+/// After every legal run the state is sound.
+pub fn sound()
+    ensures { (plan : Plan) (entries : List Entry) → IsWellFormed plan → IsLegalRun plan entries → IsSound plan (state_of_run plan entries) }
+{}
+
+/// After every legal run no space holds more than its limit.
+pub fn fits()
+    ensures { (plan : Plan) (entries : List Entry) → IsWellFormed plan → IsLegalRun plan entries
+        → (space : ℕ) → IsOneOf (spaces plan) space → resident plan (state_of_run plan entries) space ≤ limit plan space }
+{}
+
+/// After a region is closed every copy is at its home, with the versions with which the region ends.
+pub fn closed_home()
+    ensures { (plan : Plan) (entries : List Entry) (line region : ℕ) → IsWellFormed plan
+        → IsLegalRun plan (entries ++ record { line = line; event = Close region } ∷ [])
+        → IsAtHome plan region (state_of_run plan (entries ++ record { line = line; event = Close region } ∷ [])) }
+{}
+
+/// A block is spilled only where the load of its space is above the limit, and it is the victim there. Where every
+/// space of a script is roomy, nothing is spilled.
+pub fn spills_only_over()
+    ensures only_over { (plan : Plan) (entries : List Entry) (line space block : ℕ)
+        → IsLegalRun plan (entries ++ record { line = line; event = Pick space block } ∷ [])
+        → (limit plan space < load plan (state_of_run plan entries) space) × (victim plan (state_of_run plan entries) space ≡ Some block) }
+    ensures roomy { (plan : Plan) (entries : List Entry) → IsWellFormed plan → AllRoomy plan → IsLegalRun plan entries → has_pick entries ≡ false }
+{}
+
+/// From the begin of a region to its close exactly as many elements move as its placement makes necessary.
+pub fn moved_exact()
+    ensures { (plan : Plan) (before within : List Entry) (region first last : ℕ) → IsWellFormed plan
+        → IsLegalRun plan (before ++ (record { line = first; event = Begin region } ∷ (within ++ (record { line = last; event = Close region } ∷ []))))
+        → (state_of_run plan (before ++ (record { line = first; event = Begin region } ∷ (within ++ (record { line = last; event = Close region } ∷ []))))).moved
+        ≡ (state_of_run plan before).moved + moved plan region }
+{}
+
+/// No carriage of a region has fewer sends than the region moves elements.
+pub fn moved_least()
+    ensures { (plan : Plan) (region : ℕ) (steps : List Step) → IsWellFormed plan → IsCarriage plan region steps → moved plan region ≤ sends steps }
+{}
+
+/// In an open region some entry is always legal; where nothing is on its way and not every task is done, an event leads a
+/// task on; and a region is closed within a bounded number of entries.
+pub fn goes_on()
+    ensures { (plan : Plan) → IsWellFormed plan → GoOn plan }
+{}
+
+/// A well-formed Plan with a whole legal run exists, so what the laws assume can be met.
+pub fn some_whole_run()
+    ensures { (plan : Plan) × (entries : List Entry) × IsWellFormed plan × IsWholeRun plan entries }
+{}

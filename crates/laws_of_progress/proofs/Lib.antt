@@ -1,0 +1,10 @@
+pub mod ReservedKept
+pub mod HomesKept
+pub mod CopiesKept
+pub mod LendsWhole
+pub mod OrdersOnce
+pub mod ProgressKept
+pub mod SearchLemmas
+pub mod QuietRoom
+pub mod QuietLemmas
+pub mod AlwaysLemmas
