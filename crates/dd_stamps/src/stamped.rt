@@ -53,12 +53,14 @@ impl<'p> Stamped<'p> {
         self.plan
     }
 
+    /// The number of its block.
     pub fn block(&self) -> u32
         ensures { result ≡ self.now.block }
     {
         self.block
     }
 
+    /// The version of each place; a blank is 4294967295.
     pub fn versions(&self) -> &RunMap
         ensures { result.now ≡ self.now.versions }
     {
@@ -172,6 +174,7 @@ impl<'p> Stamped<'p> {
         versions
     }
 
+    /// The value of each place.
     pub fn values(&self) -> &[i64]
         ensures { result.now ≡ self.now.values.items }
     {
