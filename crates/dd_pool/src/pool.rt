@@ -61,7 +61,8 @@ impl<'p, D: Store> Pool<'p, D> {
         self.copies.get(space, block)
     }
 
-    /// The bytes of the copies in the memory of a space: 8 times their elements. It takes no memory and no time.
+    /// The bytes of the copies in the memory of a space: 8 times their elements. It takes no memory, and goes through no
+    /// blocks.
     pub fn bytes(&self, space: u32) -> u64
         requires { IsNumberIn self.now.plan.now.spaces space }
         ensures { result ≡ bytes_at self.now space }
