@@ -51,7 +51,7 @@ fn task_limit(draft: &Draft, row: &TaskRow) -> Option<u64>
 {
     match &draft.opened {
         Some(region) => passed_by_task(draft, region, row),
-        None => None,
+        None => unreachable!(),
     }
 }
 

@@ -59,7 +59,7 @@ fn enter_machine(draft: &mut Draft, line: u32, x: Statement) -> Result<(), Alloc
             draft.plan.rule = rule;
             Ok(())
         }
-        _ => Ok(()),
+        _ => unreachable!(),
     }
 }
 
@@ -166,6 +166,6 @@ fn enter_script(alloc: Global, draft: &mut Draft, line: u32, x: Statement) -> Re
         Statement::Print(name) => add_print(draft, line, &name),
         Statement::Sum(name) => add_sum(draft, line, name),
         Statement::Moved => add_moved(draft, line),
-        _ => Ok(()),
+        _ => unreachable!(),
     }
 }

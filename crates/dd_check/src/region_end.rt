@@ -55,7 +55,7 @@ pub(crate) fn close_region(alloc: Global, draft: &mut Draft, line: u32) -> Resul
     ensures counts { OnOk result (Counts draft.new) }
 {
     let Some(region) = draft.opened.take() else {
-        return Ok(());
+        unreachable!()
     };
     join(alloc, draft, line, region)
 }

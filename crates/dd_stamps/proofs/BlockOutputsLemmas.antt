@@ -1,6 +1,6 @@
 -- What a task stores in a block, by the Plan.
-use Rattle.std.proofs.Common.{◌≡◌, ◌≢◌, ◌-◌, ◌+◌, ◌*◌, ◌<◌, ◌≤◌, ℕ, zero, suc, ℤ, Bool, true, false, not, ◌&&◌, cond, List, length, map, get_or, sym, ap, ◌∙◌, refl, subst, arith}
-use Rattle.std.specs.Prelude.{nat_eq, slice_index}
+use Rattle.std.proofs.Common.{◌≡◌, ◌-◌, ◌<◌, ◌≤◌, ℕ, zero, suc, ℤ, Bool, true, false, ◌&&◌, cond, List, length, map, get_or, sym, ap, ◌∙◌, refl, subst, arith}
+use Rattle.std.specs.Prelude.{slice_index}
 use Rattle.std.specs.List.{All}
 use Rattle.dd_kernels.specs.Lists.{element}
 use Rattle.dd_views.specs.Views.{IsViewOf}
@@ -63,7 +63,7 @@ module _ (plan : Plan) (task block : ℕ) (accesses : List AccessRow) (array : �
   pub pending_written : (map : PlaceMap) → length map.list ≡ size_of plan block → pending (λ q. some_writes accesses (at q)) task map.list ≤ written_places plan task block
   pending_written map long =
       let less = count_le (is_pending (λ q. some_writes accesses (at q)) task map.list) (λ p. task_writes (task_row plan task) (element_of plan block p)) (size_of plan block)
-        (λ p is. sym (same_writes p) ∙ both_first (some_writes accesses (at p)) _ is) in
+      (λ p is. sym (same_writes p) ∙ both_first (some_writes accesses (at p)) _ is) in
       subst (λ (n : ℕ). Rattle.dd_stamps.specs.Stamps.count_below (is_pending (λ q. some_writes accesses (at q)) task map.list) n ≤ written_places plan task block) (sym long) less
 
   -- what the code leaves is what the Plan says
@@ -72,11 +72,11 @@ module _ (plan : Plan) (task block : ℕ) (accesses : List AccessRow) (array : �
   outputs_in lists old was new is before after holds = record {
     count = ap length after ∙ holds.count ∙ ap length before;
     each = λ q lt.
-    ap (λ (l : List ℤ). element l q) after
-    ∙ holds.each q (subst (λ (n : ℕ). q < n) same_size lt)
-    ∙ ap (λ (e : Element). value_stored accesses lists e (element old q)) (same_place q)
-    ∙ ap (λ (l : List AccessRow). value_stored l lists (element_of plan block q) (element old q)) are.accesses_are
-    ∙ ap (λ (l : List ℤ). value_stored (task_row plan task).accesses lists (element_of plan block q) (element l q)) before;
+        ap (λ (l : List ℤ). element l q) after
+        ∙ holds.each q (subst (λ (n : ℕ). q < n) same_size lt)
+        ∙ ap (λ (e : Element). value_stored accesses lists e (element old q)) (same_place q)
+        ∙ ap (λ (l : List AccessRow). value_stored l lists (element_of plan block q) (element old q)) are.accesses_are
+        ∙ ap (λ (l : List ℤ). value_stored (task_row plan task).accesses lists (element_of plan block q) (element l q)) before;
   }
 
   pub number_in : (old new : List ℕ) → HoldsNumber accesses at (block_size g b) task old new → HoldsNumber (task_row plan task).accesses (element_of plan block) (size_of plan block) task old new
@@ -90,9 +90,9 @@ module _ (plan : Plan) (task block : ℕ) (accesses : List AccessRow) (array : �
       → All (λ (a : AccessRow). a.view.array ≡ array → IsViewOf (record { rows = g.rows; cols = g.cols }) a.view) accesses
   views_in views = subst (All (λ (a : AccessRow). a.view.array ≡ array → IsViewOf (record { rows = g.rows; cols = g.cols }) a.view)) (sym are.accesses_are)
       (λ k d lt same.
-        let a : AccessRow = get_or (task_row plan task).accesses k d in
-        subst (λ (h : Grid). IsViewOf (record { rows = h.rows; cols = h.cols }) (get_or (task_row plan task).accesses k d).view) (sym are.grid_is)
-        (subst (λ (n : ℕ). IsViewOf (shape_in (array_row plan n)) (get_or (task_row plan task).accesses k d).view) (same ∙ are.array_is) (views k d lt)))
+      let a : AccessRow = get_or (task_row plan task).accesses k d in
+      subst (λ (h : Grid). IsViewOf (record { rows = h.rows; cols = h.cols }) (get_or (task_row plan task).accesses k d).view) (sym are.grid_is)
+      (subst (λ (n : ℕ). IsViewOf (shape_in (array_row plan n)) (get_or (task_row plan task).accesses k d).view) (same ∙ are.array_is) (views k d lt)))
 
 -- the cells stay true
 pub outputs_true : (plan : Plan) (task block : ℕ) (lists : List (List ℤ)) (vs ws : List ℕ) (xs ys : List ℤ) → IsWellFormed plan → IsNumberIn plan.tasks task → IsNumberIn plan.blocks block

@@ -1,7 +1,7 @@
 -- What was collected of all touched blocks is what the task finds.
-use Rattle.std.proofs.Common.{◌≡◌, ◌≢◌, ℕ, zero, suc, ◌+◌, ◌-◌, ◌<◌, ◌≤◌, ℤ, pos, Bool, true, false, not, ◌&&◌, cond, List, [], ◌∷◌, ◌++◌, length, map, set, take, get_or, inl, inr, refl, sym, ap, ◌∙◌, subst, arith, ⊎_elim}
+use Rattle.std.proofs.Common.{◌≡◌, ◌≢◌, ℕ, zero, suc, ◌+◌, ◌-◌, ◌<◌, ◌≤◌, ℤ, pos, true, false, not, ◌&&◌, List, [], ◌∷◌, ◌++◌, length, map, set, take, get_or, inl, inr, refl, sym, ap, ◌∙◌, subst, arith, ⊎_elim}
 use Rattle.std.proofs.lemmas.Bool.{cases_Bool}
-use Rattle.std.specs.Prelude.{nat_eq, slice_index, slice_index_or, Contains}
+use Rattle.std.specs.Prelude.{nat_eq, slice_index, Contains}
 use Rattle.std.specs.List.{All, AllZip, filter, list_any}
 use Rattle.std.proofs.lemmas.Bool.Decides.{eqb_tells}
 use Rattle.std.proofs.lemmas.List.{ext_get_or, get_or-map, get_or-set_other, get_or-set_same, length-map, map-append, map-set, take_more, with_items_is}
@@ -10,7 +10,7 @@ use Rattle.std.specs.Vec.{with_items}
 use Rattle.dd_meaning.specs.Lists.{lists_of}
 use Rattle.dd_views.proofs.ViewLemmas.{length_view, view_few}
 use Rattle.dd_blocks.proofs.LayoutLemmas.{elements_within}
-use Rattle.std.proofs.lemmas.List.Elements.{All-contains_itself, All-get_or}
+use Rattle.std.proofs.lemmas.List.Elements.{All-contains_itself}
 use Rattle.std.proofs.lemmas.List.Folds.{list_any-from_Any}
 use Rattle.dd_kernels.specs.declared.shape.Shape.{Shape}
 use Rattle.dd_kernels.specs.declared.signature.Mode.{Mode}
@@ -25,9 +25,8 @@ use Rattle.dd_views.specs.IndexList.{index_list}
 use Rattle.dd_views.specs.Views.{IsView, IsViewOf}
 use Rattle.dd_blocks.specs.declared.access_row.AccessRow.{AccessRow}
 use Rattle.dd_blocks.specs.declared.plan.Plan.{Plan}
-use Rattle.dd_blocks.specs.declared.task_row.TaskRow.{TaskRow}
 use Rattle.dd_blocks.specs.Elements.{Element, has, reads, task_reads, task_writes}
-use Rattle.dd_blocks.specs.Numbered.{IsNumberIn, array_row, block_row, no_task, task_row}
+use Rattle.dd_blocks.specs.Numbered.{IsNumberIn, array_row, no_task, task_row}
 use Rattle.dd_blocks.specs.PlanElements.{block_of_element, element_of, place_of_element}
 use Rattle.dd_blocks.specs.Tasks.{MayBe, kernel_shape, shape_in, shapes_in}
 use Rattle.dd_blocks.specs.WellFormed.{IsWellFormed}
@@ -43,7 +42,7 @@ use Rattle.dd_meaning.specs.Written.{HaveLengths}
 use Rattle.dd_meaning.proofs.LatestLemmas.{latest_le}
 use Rattle.dd_meaning.proofs.ValuesLemmas.{in_first_world, names_arrays}
 use Rattle.dd_spans.proofs.MembersLemmas.{contains_filter, contains_none}
-use Rattle.dd_stamps.specs.Cells.{AreTrue, blank, size_of as places_of}
+use Rattle.dd_stamps.specs.Cells.{AreTrue, size_of as places_of}
 use Rattle.dd_stamps.specs.Found.{HasCollected, HasFound, HaveCollected, HaveFound, IsSmallView}
 use Rattle.dd_stamps.specs.Gathered.{element_at}
 use Rattle.dd_stamps.proofs.InBlocksLemmas.{view_element}
@@ -113,9 +112,10 @@ agree_found plan n [] (a ∷ more) lists zips long found = absurd zips
 agree_found plan n (m ∷ modes) [] lists zips long found = absurd zips
 agree_found plan n (m ∷ modes) (a ∷ more) [] zips long found = absurd long
 agree_found plan n (m ∷ modes) (a ∷ more) (l ∷ lists) zips long found =
-    let both = found_first plan n [] a more l lists found in
-    (same_if_read m a.mode l (gathered (world_after plan n) a) zips.0 (λ read. one_found plan n a l read long.0 both.0),
-      agree_found plan n modes more lists zips.1 long.1 both.1)
+    let both = found_first plan n [] a more l lists found in (
+      same_if_read m a.mode l (gathered (world_after plan n) a) zips.0 (λ read. one_found plan n a l read long.0 both.0),
+      agree_found plan n modes more lists zips.1 long.1 both.1,
+    )
 
 -- at first all touched blocks are left
 pub found_none : (plan : Plan) (t n : ℕ) (lists : List (List ℤ)) → IsWellFormed plan → IsNumberIn plan.tasks t → HaveFound plan n (task_row plan t).blocks (task_row plan t).accesses lists
@@ -148,25 +148,26 @@ one_collected plan t block left a vs xs old new well known named view long task 
     let e : Element = element_at a.view i in
     let gathers = (collected.read read).each i (omega (arith, long, lt)) in
     elim (eqb_tells (block_of_element plan (element_at a.view i)) block) [
-      inl h ↦
-        let is = view_element plan a.view i named view lt in
-        let has = place_of_each plan well.layout e is in
-        let place : ℕ = place_of_element plan e in
-        let back : element_of plan block (place_of_element plan (element_at a.view i)) ≡ element_at a.view i = ap (λ (b : ℕ). element_of plan b place) (sym h.1) ∙ has.back in
-        let within : place_of_element plan (element_at a.view i) < places_of plan block = omega (arith, has.place, ap (places_of plan) h.1) in
-        let read_there : task_reads (task_row plan t) (element_of plan block (place_of_element plan (element_at a.view i))) ≡ true = ap (task_reads (task_row plan t)) back ∙ task i lt read in
-        let next : suc (t - 1) ≡ t = omega (arith, known.0) in
-        let needs : slice_index vs (place_of_element plan (element_at a.view i)) ≡ needed_version plan (element_of plan block (place_of_element plan (element_at a.view i))) (suc (t - 1)) =
-        needed place within read_there ∙ ap (needed_version plan (element_of plan block place)) (sym next) in
-        let one : element new i ≡ element xs (place_of_element plan (element_at a.view i)) = rw h.0 at gathers in
-        one
-        ∙ found_true plan (t - 1) block place vs xs (names_arrays plan well) (omega (arith, known.1)) (omega (arith, well.line.tasks))
+      | inl h ↦
+          let is = view_element plan a.view i named view lt in
+          let has = place_of_each plan well.layout e is in
+          let place : ℕ = place_of_element plan e in
+          let back : element_of plan block (place_of_element plan (element_at a.view i)) ≡ element_at a.view i = ap (λ (b : ℕ). element_of plan b place) (sym h.1) ∙ has.back in
+          let within : place_of_element plan (element_at a.view i) < places_of plan block = omega (arith, has.place, ap (places_of plan) h.1) in
+          let read_there : task_reads (task_row plan t) (element_of plan block (place_of_element plan (element_at a.view i))) ≡ true = ap (task_reads (task_row plan t)) back ∙ task i lt read in
+          let next : suc (t - 1) ≡ t = omega (arith, known.0) in
+          let needs : slice_index vs (place_of_element plan (element_at a.view i)) ≡ needed_version plan (element_of plan block (place_of_element plan (element_at a.view i))) (suc (t - 1)) =
+          needed place within read_there ∙ ap (needed_version plan (element_of plan block place)) (sym next) in
+          let one : element new i ≡ element xs (place_of_element plan (element_at a.view i)) = rw h.0 at gathers in
+          one
+          ∙ found_true plan (t - 1) block place vs xs (names_arrays plan well) (omega (arith, known.1)) (omega (arith, well.line.tasks))
           (subst (λ (f : Element). Rattle.dd_meaning.specs.Written.IsIn (Rattle.dd_meaning.specs.Worlds.filled_world plan) f) (sym back) (in_first_world plan e is.array is.within)) within needs
           (low_needed plan (element_of plan block place) (t - 1)) cells
-        ∙ ap (value_at plan (t - 1)) back
+          ∙ ap (value_at plan (t - 1)) back
       | inr h ↦
-        let one : element new i ≡ element old i = rw h.0 at gathers in
-        one ∙ found i lt read (λ there. lacks (contains_filter (λ b. not (nat_eq b block)) left (block_of_element plan (element_at a.view i)) there (ap not h.0))) ]
+          let one : element new i ≡ element old i = rw h.0 at gathers in
+          one ∙ found i lt read (λ there. lacks (contains_filter (λ b. not (nat_eq b block)) left (block_of_element plan (element_at a.view i)) there (ap not h.0)))
+    ]
 
 pub all_collected : (plan : Plan) (t block : ℕ) (left : List ℕ) (vs : List ℕ) (xs : List ℤ) (old new : List (List ℤ)) → IsWellFormed plan → IsNumberIn plan.tasks t
     → ((k : ℕ) (d : AccessRow) → k < length (task_row plan t).accesses → length (get_or old k []) ≡ length (index_list (get_or (task_row plan t).accesses k d).view))
@@ -183,8 +184,7 @@ pub one_written : (bufs : List (Vec ℤ)) (k : ℕ) (v : Vec ℤ) (ws : List ℤ
     → (get_or (lists_of (set bufs k (with_items v ws))) k [] ≡ ws) × ((i : ℕ) → i ≢ k → get_or (lists_of (set bufs k (with_items v ws))) i [] ≡ get_or (lists_of bufs) i [])
 one_written bufs k v ws lt long =
     let same : lists_of (set bufs k (with_items v ws)) ≡ set (lists_of bufs) k (with_items v ws).items = map-set (λ (b : Vec ℤ). b.items) bufs k (with_items v ws) in
-    let many : k < length (lists_of bufs) = omega (arith, lt, length-map bufs (λ (b : Vec ℤ). b.items)) in
-    (
+    let many : k < length (lists_of bufs) = omega (arith, lt, length-map bufs (λ (b : Vec ℤ). b.items)) in (
       ap (λ (ls : List (List ℤ)). get_or ls k []) same ∙ get_or-set_same (lists_of bufs) k (with_items v ws).items [] many ∙ with_items_is v ws long,
       λ i ne. ap (λ (ls : List (List ℤ)). get_or ls i []) same ∙ get_or-set_other (lists_of bufs) k i (with_items v ws).items [] ne,
     )
@@ -219,7 +219,7 @@ pub collected_in : (p q : Plan) (block : ℕ) (values : List ℤ) (lent accesses
 collected_in p q block values lent accesses v old new plan same was long collected =
     subst (λ (l : List (Vec ℤ)). HaveCollected q block values accesses (lists_of v.items) (lists_of l)) (sym (with_items_is v new long))
     (subst (λ (l : List (Vec ℤ)). HaveCollected q block values accesses (lists_of l) (lists_of new)) was
-      (subst (λ (l : List AccessRow). HaveCollected q block values l (lists_of old) (lists_of new)) same (subst (λ (r : Plan). HaveCollected r block values lent (lists_of old) (lists_of new)) plan collected)))
+    (subst (λ (l : List AccessRow). HaveCollected q block values l (lists_of old) (lists_of new)) same (subst (λ (r : Plan). HaveCollected r block values lent (lists_of old) (lists_of new)) plan collected)))
 
 one_length : (plan : Plan) (block : ℕ) (values : List ℤ) (a : AccessRow) (old new : List ℤ) → HasCollected plan block values a old new → length new ≡ length old
 one_length plan block values a old new collected = ⊎_elim
@@ -235,6 +235,6 @@ pub kept_sizes : (plan : Plan) (block : ℕ) (values : List ℤ) (accesses : Lis
 kept_sizes plan block values accesses old new many collected =
     ext_get_or 0 (map length new) (map length old) (length-map new length ∙ collected.count ∙ sym (length-map old length))
     (λ i lt.
-      let less : i < length new = omega (arith, lt, length-map new length) in
-      let was : i < length old = omega (arith, less, collected.count) in
-      get_or-map length new i [] 0 less ∙ one_length plan block values (get_or accesses i none_access) (get_or old i []) (get_or new i []) (collected.each i none_access (omega (arith, was, many))) ∙ sym (get_or-map length old i [] 0 was))
+    let less : i < length new = omega (arith, lt, length-map new length) in
+    let was : i < length old = omega (arith, less, collected.count) in
+    get_or-map length new i [] 0 less ∙ one_length plan block values (get_or accesses i none_access) (get_or old i []) (get_or new i []) (collected.each i none_access (omega (arith, was, many))) ∙ sym (get_or-map length old i [] 0 was))

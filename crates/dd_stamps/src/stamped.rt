@@ -16,8 +16,8 @@ ghost use Rattle.dd_stamps.specs.Cells.{AreTrue, AreTrue-prop};
 ghost use Rattle.dd_stamps.specs.Cells.{size_of};
 
 use crate::fill::filled_block;
-use crate::places::{take_values, take_versions};
 use crate::gathering::gather;
+use crate::places::{take_values, take_versions};
 use crate::rows::{array_with, block_row, task_row};
 use crate::storing::store_all;
 use crate::work::{Stage, Work};
@@ -53,12 +53,14 @@ impl<'p> Stamped<'p> {
         self.plan
     }
 
+    /// The number of its block.
     pub fn block(&self) -> u32
         ensures { result ≡ self.now.block }
     {
         self.block
     }
 
+    /// The version of each place; a blank is 4294967295.
     pub fn versions(&self) -> &RunMap
         ensures { result.now ≡ self.now.versions }
     {
@@ -162,10 +164,17 @@ impl<'p> Stamped<'p> {
     pub fn into_versions(self) -> RunMap
         ensures { result ≡ self.entry.versions }
     {
-        let Stamped { plan: _, block: _, versions, values: _, told: _ } = self;
+        let Stamped {
+            plan: _,
+            block: _,
+            versions,
+            values: _,
+            told: _,
+        } = self;
         versions
     }
 
+    /// The value of each place.
     pub fn values(&self) -> &[i64]
         ensures { result.now ≡ self.now.values.items }
     {
@@ -206,11 +215,7 @@ pub fn restored<'p, M: Mark>(
 ///
 /// # Errors
 /// Want of memory.
-pub fn fresh_fill<'p>(
-    alloc: Global,
-    plan: &'p Plan,
-    block: u32,
-) -> Result<Stamped<'p>, AllocError>
+pub fn fresh_fill<'p>(alloc: Global, plan: &'p Plan, block: u32) -> Result<Stamped<'p>, AllocError>
     requires well { IsWellFormed plan.now }
     requires known { IsNumberIn plan.now.blocks block }
     ensures plan { IfOk result (λ c. c.plan ≡ plan.entry) }

@@ -49,7 +49,16 @@ pub(crate) fn store_all(
     ensures spare { Spends written task versions.old versions.new }
 {
     for k in 0..accesses.len() {
-        store_one(grid, block, array, accesses[k], &bufs[k], task, values, versions);
+        store_one(
+            grid,
+            block,
+            array,
+            accesses[k],
+            &bufs[k],
+            task,
+            values,
+            versions,
+        );
     }
 }
 

@@ -1,9 +1,8 @@
-use Rattle.std.proofs.Common.{◌≡◌, ◌≢◌, ℕ, ℤ, ◌+◌, ◌<◌, ◌≤◌, inl, inr, List, [], ◌∷◌, length, map, set, get_or, refl, sym, ap, ◌∙◌, subst, arith}
+use Rattle.std.proofs.Common.{◌≡◌, ◌≢◌, ℕ, ℤ, ◌<◌, inl, inr, List, [], length, set, get_or, sym, ap, ◌∙◌, subst, arith}
 use Rattle.std.specs.Global.{Vec}
 use Rattle.std.specs.Vec.{with_items}
 use Rattle.std.proofs.lemmas.Bool.Decides.{eqb_tells}
 use Rattle.std.proofs.lemmas.List.{get_or-map, get_or_default, length-map, length-set}
-use Rattle.dd_blocks.specs.declared.access_row.AccessRow.{AccessRow}
 use Rattle.dd_blocks.specs.Tasks.{shapes_in}
 use Rattle.dd_meaning.specs.Lists.{lists_of}
 use Rattle.dd_stamps.specs.Found.{HasCollected}
@@ -38,11 +37,12 @@ loop-k-preserved c =
     record {
       count = length-set c.loop-k.bufs c.loop-k.k (with_items v c.collect_one.new.buf) ∙ c.loop-k.invariant.count;
       done = λ k d less. elim (eqb_tells k c.loop-k.k) [
-        inl e ↦
-          subst (λ (n : ℕ). HasCollected c.args.copy.now.plan.now c.args.copy.now.block c.args.copy.now.values.items (get_or c.args.accesses.now n d) (get_or (lists_of c.args.bufs.now) n []) (get_or (lists_of (set c.loop-k.bufs c.loop-k.k (with_items (get_or c.loop-k.bufs c.loop-k.k c.index-bufs-k.result) c.collect_one.new.buf))) n [])) (sym e.1)
-          (same_collected c.args.copy.now.plan.now c.args.copy.now.block c.args.copy.now.values.items _ _ _ _ _ _ (get_or_default c.args.accesses.now c.loop-k.k _ d lt) was (sym written.0) c.collect_one.ensures)
+        | inl e ↦
+            subst (λ (n : ℕ). HasCollected c.args.copy.now.plan.now c.args.copy.now.block c.args.copy.now.values.items (get_or c.args.accesses.now n d) (get_or (lists_of c.args.bufs.now) n []) (get_or (lists_of (set c.loop-k.bufs c.loop-k.k (with_items (get_or c.loop-k.bufs c.loop-k.k c.index-bufs-k.result) c.collect_one.new.buf))) n [])) (sym e.1)
+            (same_collected c.args.copy.now.plan.now c.args.copy.now.block c.args.copy.now.values.items _ _ _ _ _ _ (get_or_default c.args.accesses.now c.loop-k.k _ d lt) was (sym written.0) c.collect_one.ensures)
         | inr ne ↦
-          let other : k ≢ c.loop-k.k = ne.1 in
-          subst (λ (l : List ℤ). HasCollected c.args.copy.now.plan.now c.args.copy.now.block c.args.copy.now.values.items (get_or c.args.accesses.now k d) (get_or (lists_of c.args.bufs.now) k []) l) (sym (written.1 k ne.1)) (c.loop-k.invariant.done k d (omega arith)) ];
+            let other : k ≢ c.loop-k.k = ne.1 in
+            subst (λ (l : List ℤ). HasCollected c.args.copy.now.plan.now c.args.copy.now.block c.args.copy.now.values.items (get_or c.args.accesses.now k d) (get_or (lists_of c.args.bufs.now) k []) l) (sym (written.1 k ne.1)) (c.loop-k.invariant.done k d (omega arith))
+      ];
       left = λ k le. written.1 k (λ e. omega (arith, e, le)) ∙ c.loop-k.invariant.left k (omega arith);
     }

@@ -1,4 +1,4 @@
-use Rattle.std.proofs.Common.{◌≡◌, ◌≢◌, ◌-◌, ℕ, ℤ, [], List, true, sym, ap, ◌∙◌, refl, subst}
+use Rattle.std.proofs.Common.{◌≡◌, ◌-◌, ℕ, ℤ, List, sym, ap, ◌∙◌, subst}
 use Rattle.std.proofs.Math.Logic.{∥∥₁_elim, ∥∥₁_prop}
 use Rattle.std.specs.Global.{Vec}
 use Rattle.dd_kernels.specs.Signatures.{modes_of}
@@ -25,11 +25,11 @@ invariant_of-self-clause-inputs c =
     let shapes = have_shapes (shapes_in row.accesses) bufs (c.args.self.now.filled (λ (e : c.args.self.now.stage ≡ Begun). let clash : Collecting ≡ Begun = sym c.requires.stage ∙ e in absurd (cc))) in
     let long = have_lengths row.accesses bufs (are_views plan task c.requires.well c.args.self.now.known) shapes in
     ∥∥₁_elim c.args.self.now.found ∥∥₁_prop (λ found.
-      ∣ (λ told begun.
-        let some = found told c.requires.stage in
-        let all = subst (λ (left : List ℕ). HaveFound c.args.self.now.plan.now (c.args.self.now.task - 1) left (task_row c.args.self.now.plan.now c.args.self.now.task).accesses (lists_of c.args.self.now.args.bufs.items)) c.requires.all some in
-        let agree = agree_found plan (task - 1) (modes_of row.kernel) row.accesses bufs modes long all in
-        subst (λ (v : Vec (Vec ℤ)). AgreeWhereRead (task_row c.args.self.now.plan.now c.args.self.now.task).kernel (lists_of v.items) (inputs_of c.args.self.now.plan.now c.args.self.now.task)) (sym c.of.ensures) agree) ∣₁)
+    ∣ (λ told begun.
+    let some = found told c.requires.stage in
+    let all = subst (λ (left : List ℕ). HaveFound c.args.self.now.plan.now (c.args.self.now.task - 1) left (task_row c.args.self.now.plan.now c.args.self.now.task).accesses (lists_of c.args.self.now.args.bufs.items)) c.requires.all some in
+    let agree = agree_found plan (task - 1) (modes_of row.kernel) row.accesses bufs modes long all in
+    subst (λ (v : Vec (Vec ℤ)). AgreeWhereRead (task_row c.args.self.now.plan.now c.args.self.now.task).kernel (lists_of v.items) (inputs_of c.args.self.now.plan.now c.args.self.now.task)) (sym c.of.ensures) agree) ∣₁)
 
 pub returns-clause-shapes : goal.returns-clause-shapes
 returns-clause-shapes c = ap (λ (a : Args). a.shapes.items) c.replace.ensures.value ∙ c.args.self.now.shaped c.requires.stage
@@ -38,4 +38,4 @@ pub returns-clause-filled : goal.returns-clause-filled
 returns-clause-filled c =
     subst (λ (a : Args). HaveShapes (shapes_in (task_row c.args.self.now.plan.now c.args.self.now.task).accesses) (lists_of a.bufs.items)) (sym c.replace.ensures.value)
     (have_shapes (shapes_in (task_row c.args.self.now.plan.now c.args.self.now.task).accesses) (lists_of c.args.self.now.args.bufs.items)
-      (c.args.self.now.filled (λ (e : c.args.self.now.stage ≡ Begun). let clash : Collecting ≡ Begun = sym c.requires.stage ∙ e in absurd (cc))))
+    (c.args.self.now.filled (λ (e : c.args.self.now.stage ≡ Begun). let clash : Collecting ≡ Begun = sym c.requires.stage ∙ e in absurd (cc))))

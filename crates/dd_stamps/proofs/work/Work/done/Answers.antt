@@ -1,8 +1,6 @@
-use Rattle.std.proofs.Common.{◌≡◌, ◌≢◌, ℕ, ℤ, List, true, sym, ap, ◌∙◌, refl}
+use Rattle.std.proofs.Common.{ℕ, ◌∙◌}
 use Rattle.std.proofs.Math.Logic.{∥∥₁_elim}
 use Rattle.std.specs.Coded.{Coded-set, coded_list, coded_ℤ}
-use Rattle.dd_kernels.specs.Agreement.{AgreeWhereRead}
-use Rattle.dd_kernels.specs.Table.{results}
 use Rattle.dd_kernels.proofs.AgreementLemmas.{written_free}
 use Rattle.dd_blocks.specs.declared.task_row.TaskRow.{TaskRow}
 use Rattle.dd_blocks.specs.Numbered.{task_row}
@@ -23,4 +21,4 @@ invariant_of-self-clause-outputs c = λ told ran.
     let fit = (c.requires.well.tasks task c.args.self.now.known).kernel.shapes in
     ∥∥₁_elim c.args.self.now.inputs (Coded-set (coded_list (coded_list coded_ℤ)) (lists_of c.args.args.bufs.items) (outputs_of plan task))
     (λ inputs. c.requires.results
-      ∙ written_free row.kernel row.scalar (shapes_in row.accesses) (lists_of c.args.self.now.given.value.items) (inputs_of plan task) fit (inputs told c.requires.begun))
+    ∙ written_free row.kernel row.scalar (shapes_in row.accesses) (lists_of c.args.self.now.given.value.items) (inputs_of plan task) fit (inputs told c.requires.begun))
