@@ -1,32 +1,21 @@
 -- Rows, regions and their tasks in a well-formed Plan.
-use Rattle.std.proofs.Common.{◌≡◌, ℕ, zero, suc, ◌+◌, ◌-◌, ◌^◌, ◌<◌, ◌≤◌, Bool, true, false, cond, eqb, leb, Option, None, Some, List, [], ◌∷◌, ◌++◌, length, map, take, drop, get_or, refl, sym, ap, subst, ◌∙◌, arith, ⊎_elim}
-use Rattle.std.specs.List.{All, count_by, filter, fold, range_with_len, sum_by}
-use Rattle.std.specs.List.Sorted.{IsNonDecreasingBy}
-use Rattle.std.proofs.lemmas.Bool.{cases_lt}
-use Rattle.std.proofs.lemmas.Bool.Decides.{nat_tests}
-use Rattle.std.proofs.lemmas.List.{append-nil, append_assoc, get_or_default, length-append, take-append-drop}
-use Rattle.std.proofs.lemmas.List.Elements.{All-filter, filter_map-append}
-use Rattle.std.proofs.lemmas.List.FromFn.{get_or-range_with_len, length-map-range_with_len}
-use Rattle.std.proofs.lemmas.List.Sums.{fold-append, get_or-le-sum_by, position_or_len_is, sum_by-cons, sum_by_push}
-use Rattle.std.proofs.Math.Seq.{get_or-append_seam, take-suc}
+use Rattle.std.proofs.Common.{◌≡◌, ℕ, suc, ◌+◌, ◌-◌, ◌^◌, ◌<◌, ◌≤◌, eqb, List, [], ◌∷◌, length, map, get_or, refl, sym, ap, subst, ◌∙◌, arith}
+use Rattle.std.specs.List.{All, range_with_len, sum_by}
+use Rattle.std.proofs.lemmas.List.{get_or_default}
+use Rattle.std.proofs.lemmas.List.Elements.{All-filter}
+use Rattle.std.proofs.lemmas.List.FromFn.{length-map-range_with_len}
+use Rattle.std.proofs.lemmas.List.Sums.{get_or-le-sum_by, sum_by_push}
 use Rattle.dd_blocks.specs.declared.array_row.ArrayRow.{ArrayRow}
 use Rattle.dd_blocks.specs.declared.plan.Plan.{Plan}
-use Rattle.dd_blocks.specs.declared.statement_row.StatementRow.{StatementRow}
 use Rattle.dd_blocks.specs.declared.task_row.TaskRow.{TaskRow}
-use Rattle.dd_blocks.specs.declared.what.What.{What}
-use Rattle.dd_blocks.specs.declared.what.What.TheVariants.{Put, Print, Sum, Moved, Same, Drop, MoveTo, Region}
 use Rattle.dd_blocks.specs.Grids.{element_count}
-use Rattle.dd_blocks.specs.Homes.{row_of_region, runs_region}
-use Rattle.dd_blocks.specs.Lives.{region_run, regions_run, tasks_of}
+use Rattle.dd_blocks.specs.Lives.{tasks_of}
 use Rattle.dd_blocks.specs.Numbered.{IsNumberIn, numbered, no_array, no_task}
 use Rattle.dd_blocks.specs.WellFormed.{IsWellFormed}
 use Rattle.dd_meaning.proofs.RegionTasksLemmas.{none_through}
-use Rattle.dd_meaning.specs.Steps.{step, world_after}
-use Rattle.dd_meaning.specs.Text.{regions_above}
+use Rattle.dd_meaning.specs.Steps.{world_after}
 use Rattle.dd_meaning.specs.Versions.{tasks_through}
-use Rattle.dd_meaning.specs.Worlds.{World, filled, filled_world}
-use Rattle.dd_blocks.specs.ArrayHomes.{AreMovedTo}
-use Rattle.dd_meaning.specs.RegionRows.{RunsAt, next_region}
+use Rattle.dd_meaning.specs.Worlds.{World, filled}
 use Rattle.dd_plain.specs.Sizes.{CanRun, HasSizes}
 use Rattle.dd_kernels.proofs.ListsLemmas.{ap2}
 use Rattle.dd_views.proofs.ListsLemmas.{range_with_len_more}

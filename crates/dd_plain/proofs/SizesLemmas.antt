@@ -1,5 +1,5 @@
 -- How many values the arrays of a world have.
-use Rattle.std.proofs.Common.{◌≡◌, ℕ, zero, suc, List, [], ◌∷◌, length, map, get_or, refl, sym, ap, ◌∙◌}
+use Rattle.std.proofs.Common.{◌≡◌, ℕ, zero, suc, List, [], ◌∷◌, length, get_or, refl, sym, ap, ◌∙◌}
 use Rattle.std.proofs.lemmas.List.{length-map}
 use Rattle.dd_blocks.specs.declared.array_row.ArrayRow.{ArrayRow}
 use Rattle.dd_blocks.specs.Grids.{element_count}

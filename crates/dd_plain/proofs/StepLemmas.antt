@@ -1,10 +1,10 @@
 -- A task whose arrays were lent and came back is a step of the world.
-use Rattle.std.proofs.Common.{◌≡◌, ℕ, ◌+◌, ◌-◌, ◌≤◌, ℤ, Bool, true, false, List, [], ◌∷◌, length, map, drop, get_or, set, refl, sym, ap, subst, ◌∙◌, arith, ⊎_elim}
+use Rattle.std.proofs.Common.{◌≡◌, ℕ, ◌+◌, ◌-◌, ◌≤◌, ℤ, Bool, true, false, List, [], ◌∷◌, length, map, get_or, set, refl, sym, ap, subst, ◌∙◌, arith, ⊎_elim}
 use Rattle.std.specs.Global.{Vec}
 use Rattle.std.specs.List.{All, AllByRecursion, range_with_len}
 use Rattle.std.specs.Vec.{with_items}
 use Rattle.std.proofs.lemmas.Bool.{cases_Bool}
-use Rattle.std.proofs.lemmas.List.{length-map, map-set, set-set, take_all, take_at}
+use Rattle.std.proofs.lemmas.List.{length-map, map-set, set-set, take_all}
 use Rattle.dd_lists.proofs.VectorsLemmas.{items_written}
 use Rattle.dd_kernels.specs.declared.shape.Shape.{Shape}
 use Rattle.dd_kernels.specs.declared.signature.Mode.{Mode}
