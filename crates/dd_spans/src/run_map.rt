@@ -100,7 +100,8 @@ impl RunMap {
         requires { place < length self.old.list }
         ensures { self.new ≡ record self.old { list = slice_set self.old.list place value } }
     {
-        self.values[place as usize] = value;
+        let at = place as usize;
+        self.values[at] = value;
     }
 
     /// Sets `count` places from `first` on. It takes no memory: it uses up to two of the spare runs.
