@@ -1,5 +1,5 @@
 -- There is one way at most in which an event is legal, and in which entries are a run.
-use Rattle.std.proofs.Common.{◌≡◌, ℕ, zero, suc, List, [], ◌∷◌}
+use Rattle.std.proofs.Common.{ℕ, zero, suc, List, [], ◌∷◌}
 use Rattle.std.proofs.Props.{props}
 use Rattle.std.specs.Coded.{×_prop, Unit-prop}
 use Rattle.dd_blocks.specs.declared.plan.Plan.{Plan}

@@ -1,11 +1,11 @@
 -- The entries that make a copy and that free one in a region.
-use Rattle.std.proofs.Common.{◌≡◌, ℕ, ◌+◌, ◌-◌, ◌≤◌, true, false, eqb, Option, Some, None, ap, sym, ◌∙◌, subst, inl, ⊎_elim, arith}
+use Rattle.std.proofs.Common.{◌≡◌, ℕ, ◌+◌, ◌≤◌, true, false, eqb, Option, Some, None, ap, sym, ◌∙◌, subst, inl, ⊎_elim, arith}
 use Rattle.std.specs.Prelude.{not, slice_index}
 use Rattle.std.proofs.lemmas.Bool.{ne_eqb, or_left, or_right}
-use Rattle.std.proofs.lemmas.List.Elements.{All-contains, All-get_or}
+use Rattle.std.proofs.lemmas.List.Elements.{All-contains}
 use Rattle.dd_blocks.specs.declared.plan.Plan.{Plan}
-use Rattle.dd_blocks.specs.Numbered.{IsNumberIn, no_task, task_row}
-use Rattle.dd_blocks.specs.WellFormed.{IsWellFormed, TaskNamesRows}
+use Rattle.dd_blocks.specs.Numbered.{IsNumberIn, task_row}
+use Rattle.dd_blocks.specs.WellFormed.{IsWellFormed}
 use Rattle.dd_machine.specs.declared.event.Event.TheVariants.{Free, Make}
 use Rattle.dd_machine.specs.declared.task_state.TaskState.TheVariants.{Held, Done}
 use Rattle.dd_machine.specs.Effects.{after, fresh}

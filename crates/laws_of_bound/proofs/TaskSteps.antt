@@ -6,8 +6,8 @@ use Rattle.std.proofs.lemmas.Bool.{cases_Bool, cases_order, or_cases, or_left, o
 use Rattle.std.proofs.lemmas.List.Elements.{All-get_or}
 use Rattle.dd_blocks.specs.declared.plan.Plan.{Plan}
 use Rattle.dd_blocks.specs.declared.proc_row.ProcRow.{ProcRow}
-use Rattle.dd_blocks.specs.Numbered.{IsNumberIn, no_task, task_row}
-use Rattle.dd_blocks.specs.WellFormed.{IsWellFormed, TaskNamesRows}
+use Rattle.dd_blocks.specs.Numbered.{IsNumberIn}
+use Rattle.dd_blocks.specs.WellFormed.{IsWellFormed}
 use Rattle.dd_machine.specs.declared.event.Event.TheVariants.{Hold, Claim, Finish}
 use Rattle.dd_machine.specs.declared.task_state.TaskState.{TaskState}
 use Rattle.dd_machine.specs.declared.task_state.TaskState.TheVariants.{Waiting, Held, Running, Done}

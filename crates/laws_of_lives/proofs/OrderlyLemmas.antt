@@ -1,22 +1,17 @@
 -- A well-formed Plan asks for its entries in order: a block is put before a task of a region touches it, and only once.
-use Rattle.std.proofs.Common.{◌≡◌, ◌≢◌, ◌⊎◌, ℕ, zero, suc, ◌+◌, ◌-◌, ◌*◌, ◌/◌, ◌%◌, ◌<◌, ◌≤◌, Bool, true, false, cond, ◌&&◌, eqb, List, [], ◌∷◌, ◌++◌, length, get_or, take, drop, Option, Some, None, refl, ap, sym, ◌∙◌, subst, inl, inr, ⊎_elim, arith, append-nil, length-append, take-suc, take-add, take-append-drop, drop-cons}
-use Rattle.std.specs.Prelude.{Any, Contains, filter}
+use Rattle.std.proofs.Common.{◌≡◌, ◌≢◌, ◌⊎◌, ℕ, zero, suc, ◌+◌, ◌-◌, ◌<◌, ◌≤◌, Bool, true, false, ◌&&◌, eqb, List, [], ◌∷◌, ◌++◌, length, get_or, take, drop, Option, Some, None, refl, ap, sym, ◌∙◌, subst, inl, inr, ⊎_elim, arith, append-nil, length-append, take-suc, take-add, take-append-drop, drop-cons}
+use Rattle.std.specs.Prelude.{Any, Contains}
 use Rattle.std.specs.List.{cons_option, flat_map, list_any, range_with_len}
 use Rattle.std.proofs.Math.Seq.{get_or-append_seam}
 use Rattle.std.proofs.Math.ListN.{get_or-append}
-use Rattle.std.proofs.lemmas.Bool.{and_parts, cases_lt, eq-eqb, eqb-true, false_from_ne_true, or_cases, or_left}
+use Rattle.std.proofs.lemmas.Bool.{and_parts, eq-eqb, eqb-true, false_from_ne_true, or_cases, or_left}
 use Rattle.std.proofs.lemmas.Bool.Decides.{eqb_tells}
-use Rattle.std.proofs.lemmas.List.{get_or_default, get_or_past}
+use Rattle.std.proofs.lemmas.List.{get_or_default}
 use Rattle.std.proofs.lemmas.List.Elements.{All-contains, All-get_or, Contains-append_cases, Contains-append_left, Contains-append_right, filter_map-append}
 use Rattle.std.proofs.lemmas.List.Folds.{Any-from_list_any}
 use Rattle.std.proofs.lemmas.List.FromFn.{get_or-range_with_len, length-range_with_len}
 use Rattle.std.proofs.lemmas.List.Quantifiers.{Any-push}
-use Rattle.std.proofs.lemmas.Nat.{div-add-mod', mul-add-lt}
-use Rattle.dd_views.specs.declared.shape.Shape.{Shape}
-use Rattle.dd_views.specs.declared.view.View.{View}
-use Rattle.dd_views.specs.IndexList.{index_list, position}
-use Rattle.dd_views.specs.Views.{IsViewOf}
-use Rattle.dd_views.proofs.ElementsLemmas.{found, number_low, numbers}
+use Rattle.dd_views.specs.IndexList.{index_list}
 use Rattle.dd_views.proofs.ListsLemmas.{in_range, range_has}
 use Rattle.dd_blocks.specs.declared.access_row.AccessRow.{AccessRow}
 use Rattle.dd_blocks.specs.declared.plan.Plan.{Plan}
@@ -31,7 +26,7 @@ use Rattle.dd_blocks.specs.Layout.{IsLaidOut}
 use Rattle.dd_blocks.specs.Lives.{IsLive, array_put, arrays_put, arrays_used, tasks_of}
 use Rattle.dd_blocks.specs.Numbered.{IsNumberIn, array_row, block_row, no_task, task_row}
 use Rattle.dd_blocks.specs.Tasks.{IsShown, shape_in}
-use Rattle.dd_blocks.specs.WellFormed.{IsWellFormed, StatementNamesRows, TaskNamesRows}
+use Rattle.dd_blocks.specs.WellFormed.{IsWellFormed, StatementNamesRows}
 use Rattle.dd_blocks.proofs.GridLemmas.{block_within}
 use Rattle.dd_blocks.specs.Elements.{has}
 use Rattle.dd_machine.specs.declared.entry.Entry.{Entry}

@@ -8,8 +8,8 @@ use Rattle.std.proofs.lemmas.List.Sums.{length-filter}
 use Rattle.dd_blocks.specs.declared.plan.Plan.{Plan}
 use Rattle.dd_blocks.specs.declared.proc_row.ProcRow.{ProcRow}
 use Rattle.std.proofs.lemmas.List.Elements.{All-get_or}
-use Rattle.dd_blocks.specs.Numbered.{no_task, task_row}
-use Rattle.dd_blocks.specs.WellFormed.{IsWellFormed, TaskNamesRows}
+use Rattle.dd_blocks.specs.Numbered.{task_row}
+use Rattle.dd_blocks.specs.WellFormed.{IsWellFormed}
 use Rattle.dd_meaning.specs.Moves.{home_of, is_kept_in, is_read_in, moves_to, place_of, source_of}
 use Rattle.dd_meaning.specs.Versions.{last_version, needed_version, tasks_in}
 use Rattle.dd_blocks.specs.Elements.{Element, task_reads}

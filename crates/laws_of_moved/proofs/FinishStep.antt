@@ -8,7 +8,7 @@ use Rattle.dd_blocks.specs.WellFormed.{IsWellFormed}
 use Rattle.dd_meaning.specs.Moves.{home_of, is_kept_in, is_read_in, moves_to, place_of, source_of, versions_in}
 use Rattle.dd_meaning.specs.Versions.{last_version, needed_version, tasks_in}
 use Rattle.dd_blocks.specs.Elements.{Element, task_reads}
-use Rattle.dd_machine.specs.declared.task_state.TaskState.TheVariants.{Held, Done}
+use Rattle.dd_machine.specs.declared.task_state.TaskState.TheVariants.{Done}
 use Rattle.dd_machine.specs.Delivered.{all_done, delivered, has_version, is_delivered}
 use Rattle.dd_machine.specs.Needed.{version}
 use Rattle.dd_machine.specs.Orderly.{IsOrderly}
@@ -20,7 +20,6 @@ use Rattle.laws_of_moved.proofs.DeliveredLemmas.{version_at}
 use Rattle.laws_of_moved.proofs.RegionVersionsLemmas.{not_all_done}
 use Rattle.std.proofs.lemmas.Bool.{leb-true}
 use Rattle.laws_of_lives.proofs.RegionsLemmas.{through_task}
-use Rattle.dd_machine.specs.declared.task_state.TaskState.{TaskState}
 use Rattle.dd_machine.specs.declared.event.Event.TheVariants as event
 use Rattle.dd_machine.specs.Effects.{after}
 use Rattle.dd_machine.specs.States.{at_one}
@@ -34,7 +33,6 @@ use Rattle.laws_of_versions.proofs.ClosedLemmas.{last_writer_le}
 use Rattle.laws_of_versions.proofs.ConflictLemmas.{writer_within}
 use Rattle.laws_of_moved.proofs.CopyStep.{del_other}
 use Rattle.laws_of_moved.proofs.RegionVersionsLemmas.{any_of, has_of, is_of_from}
-use Rattle.dd_machine.specs.declared.task_state.TaskState.TheVariants as state
 use Rattle.dd_machine.specs.Effects.{copy_where}
 use Rattle.std.proofs.lemmas.Bool.{ltb-true, or_cases}
 use Rattle.std.proofs.lemmas.List.Folds.{Any-from_list_any}

@@ -4,9 +4,8 @@ use Rattle.std.specs.Prelude.{Contains, filter, not}
 use Rattle.std.specs.List.{count_by, range_with_len, sum_by}
 use Rattle.std.proofs.lemmas.Bool.{and_left, and_parts, and_right, cases_Bool, cases_eq, cases_lt, eq-eqb, false_from_ne_true, le-ltb, lt-leb, ne_eqb, not-true, not_from_true, or_from, or_right}
 use Rattle.dd_blocks.specs.declared.plan.Plan.{Plan}
-use Rattle.std.proofs.lemmas.List.Elements.{All-get_or}
-use Rattle.dd_blocks.specs.Numbered.{no_task, task_row}
-use Rattle.dd_blocks.specs.WellFormed.{IsWellFormed, TaskNamesRows}
+use Rattle.dd_blocks.specs.Numbered.{task_row}
+use Rattle.dd_blocks.specs.WellFormed.{IsWellFormed}
 use Rattle.dd_meaning.specs.Moves.{home_of, is_kept_in, is_read_in, moves_to, place_of, source_of, versions_in}
 use Rattle.dd_meaning.specs.Versions.{last_version, tasks_in}
 use Rattle.dd_blocks.specs.Elements.{Element}

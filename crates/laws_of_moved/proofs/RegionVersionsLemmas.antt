@@ -3,13 +3,12 @@ use Rattle.std.proofs.Common.{◌≡◌, ◌≢◌, ℕ, ◌-◌, ◌<◌, ◌�
 use Rattle.std.specs.Prelude.{Contains}
 use Rattle.std.specs.List.{list_any, range_with_len}
 use Rattle.std.proofs.lemmas.Bool.{and_from, and_parts, cases_Bool, cases_eq, eq-eqb, eqb-true, false_from_ne_true, le-leb, leb-true}
-use Rattle.std.proofs.lemmas.List.Elements.{All-get_or}
 use Rattle.std.proofs.lemmas.List.Folds.{Any-from_list_any, list_all_at, list_any_at}
 use Rattle.dd_views.proofs.ListsLemmas.{filter_has, in_filter, in_range, range_has}
 use Rattle.dd_blocks.specs.declared.plan.Plan.{Plan}
 use Rattle.dd_blocks.specs.Homes.{home_in_region}
-use Rattle.dd_blocks.specs.Numbered.{no_task, task_row}
-use Rattle.dd_blocks.specs.WellFormed.{IsWellFormed, TaskNamesRows}
+use Rattle.dd_blocks.specs.Numbered.{task_row}
+use Rattle.dd_blocks.specs.WellFormed.{IsWellFormed}
 use Rattle.dd_meaning.specs.Moves.{home_of, place_of, source_of, versions_in}
 use Rattle.dd_meaning.specs.Versions.{opening_version, tasks_in, tasks_through}
 use Rattle.dd_blocks.specs.Elements.{Element, task_writes}

@@ -2,6 +2,7 @@ pub mod ReservedKept
 pub mod HomesKept
 pub mod CopiesKept
 pub mod LendsWhole
+pub mod LendsOnce
 pub mod OrdersOnce
 pub mod ProgressKept
 pub mod SearchLemmas

@@ -11,7 +11,8 @@ use Rattle.dd_machine.specs.States.{State}
 use Rattle.dd_machine.specs.SoundProgress.{SoundProgress}
 use Rattle.laws_of_progress.proofs.CopiesKept.{keeps_copy_home, keeps_copy_known, keeps_pin_there}
 use Rattle.laws_of_progress.proofs.HomesKept.{first_fits, keeps_home_fits}
-use Rattle.laws_of_progress.proofs.LendsWhole.{keeps_lends_held, keeps_lends_here, keeps_lends_once}
+use Rattle.laws_of_progress.proofs.LendsWhole.{keeps_lends_held, keeps_lends_here}
+use Rattle.laws_of_progress.proofs.LendsOnce.{keeps_lends_once}
 use Rattle.laws_of_progress.proofs.OrdersOnce.{keeps_order_once}
 use Rattle.laws_of_progress.proofs.ReservedKept.{keeps_reserved_within, start_reserved}
 use Rattle.std.proofs.Common.{ap, arith, eqb, suc, true, ℕ, ◌≡◌}

@@ -1,5 +1,5 @@
 -- Where a region closes, the current version of each element is the last that the region knows.
-use Rattle.std.proofs.Common.{Bool, Some, ap, arith, cond, false, refl, suc, sym, true, zero, ℕ, ⊎_elim, ◌&&◌, ◌-◌, ◌<◌, ◌∙◌, ◌≡◌, ◌≢◌, ◌≤◌}
+use Rattle.std.proofs.Common.{Bool, Some, ap, arith, false, refl, sym, true, ℕ, ⊎_elim, ◌&&◌, ◌-◌, ◌<◌, ◌≡◌, ◌≢◌, ◌≤◌}
 use Rattle.std.proofs.lemmas.Bool.{and_from, and_parts, cases_eq, cases_lt}
 use Rattle.dd_blocks.specs.Conflicts.{AreInConflict}
 use Rattle.dd_blocks.specs.WellFormed.{IsWellFormed}
@@ -21,8 +21,6 @@ use Rattle.laws_of_versions.proofs.ConflictLemmas.{dep_of, done_before, read_wri
 use Rattle.laws_of_lives.proofs.RegionsLemmas.{region_order, task_through, through_task}
 use Rattle.dd_meaning.proofs.LatestLemmas.{latest_ge, latest_le, latest_passes}
 use Rattle.dd_machine.proofs.TestsLemmas.{done_is}
-use Rattle.dd_machine.specs.SoundLives.{SoundLives}
-use Rattle.dd_machine.specs.SoundVersions.{SoundVersions}
 
 -- the greatest number up to n that passes, told by what it is
 pub latest_is : (passes : ℕ → Bool) (c n : ℕ) → c ≤ n → (c ≢ 0 → passes c ≡ true) → ((u : ℕ) → u ≤ n → passes u ≡ true → u ≤ c) → latest passes n ≡ c

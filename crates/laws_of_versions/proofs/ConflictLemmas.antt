@@ -1,11 +1,7 @@
 -- Tasks that share an element keep their order.
-use Rattle.std.proofs.Common.{List, ap, arith, eqb, false, get_or, inl, inr, sym, true, ℕ, ⊎_elim, ◌&&◌, ◌<◌, ◌||◌, ◌∙◌, ◌≡◌, ◌≤◌, ◌⊎◌}
-use Rattle.std.specs.Prelude.{Contains, not}
-use Rattle.std.specs.List.{list_any}
-use Rattle.std.proofs.lemmas.Bool.{and_parts, cases_order, eq-eqb, eqb-true, or_cases}
-use Rattle.std.proofs.lemmas.List.Folds.{Any-from_list_any, list_any_at}
-use Rattle.dd_views.specs.IndexList.{index_list}
-use Rattle.dd_blocks.specs.declared.access_row.AccessRow.{AccessRow}
+use Rattle.std.proofs.Common.{ap, arith, eqb, false, inl, inr, sym, true, ℕ, ⊎_elim, ◌&&◌, ◌<◌, ◌||◌, ◌∙◌, ◌≡◌, ◌≤◌, ◌⊎◌}
+use Rattle.std.specs.Prelude.{not}
+use Rattle.std.proofs.lemmas.Bool.{and_parts, cases_order, eqb-true, or_cases}
 use Rattle.dd_blocks.specs.declared.plan.Plan.{Plan}
 use Rattle.dd_blocks.specs.Conflicts.{AreInConflict}
 use Rattle.dd_blocks.specs.Elements.{UsesElement, WritesElement}
