@@ -17,7 +17,7 @@ use Rattle.dd_alias.specs.Patterns.{IsPattern}
 use Rattle.dd_alias.specs.Places.{IsAt, IsIn}
 use Rattle.dd_alias.specs.Runs.{HasNumber}
 use Rattle.dd_alias.proofs.BandLemmas.{falling_order, rising_order}
-use Rattle.dd_alias.proofs.PlaceLemmas.{down_at, steps_sum, up_at}
+use Rattle.dd_views.proofs.NumberAtLemmas.{down_at, steps_sum, up_at}
 
 -- b is w beyond a where a line rises, and else w below it
 abbrev pub Moves : Bool → ℕ → ℕ → ℕ → Type 0

@@ -11,3 +11,4 @@ pub mod LayoutLemmas
 pub mod PlanElementsLemmas
 mod GridExamples
 mod HomesExamples
+pub mod ShapesLemmas

@@ -1,5 +1,5 @@
 -- The elements of a Plan: each has one number among all elements, and one place in one block.
-use Rattle.std.proofs.Common.{◌≡◌, ◌↔◌, ℕ, zero, suc, ◌+◌, ◌-◌, ◌<◌, ◌≤◌, List, [], ◌∷◌, ◌++◌, length, get_or, map, take, refl, sym, ap, ◌∙◌, subst, arith, ⊎_elim}
+use Rattle.std.proofs.Common.{◌≡◌, ◌↔◌, ℕ, zero, suc, ◌+◌, ◌-◌, ◌<◌, ◌≤◌, List, ◌++◌, length, get_or, map, take, refl, sym, ap, ◌∙◌, arith, ⊎_elim}
 use Rattle.std.specs.List.{All, Contains, flat_map, range_with_len, sum_by}
 use Rattle.std.proofs.lemmas.Bool.{cases_lt}
 use Rattle.std.proofs.lemmas.List.{append-nil, get_or-map, get_or_default, get_or_past, length-map, map-append, take_all}
@@ -15,7 +15,7 @@ use Rattle.dd_blocks.specs.declared.array_row.ArrayRow.{ArrayRow}
 use Rattle.dd_blocks.specs.declared.block_row.BlockRow.{BlockRow}
 use Rattle.dd_blocks.specs.declared.plan.Plan.{Plan}
 use Rattle.dd_blocks.specs.Elements.{Element, UsesElement}
-use Rattle.dd_blocks.specs.Grids.{block_count, block_of, block_size, element_count, pos_of}
+use Rattle.dd_blocks.specs.Grids.{block_of, block_size, element_count, pos_of}
 use Rattle.dd_blocks.specs.Layout.{IsLaidOut, elements_in}
 use Rattle.dd_blocks.specs.Numbered.{IsNumberIn, array_row, block_row, no_array, task_row}
 use Rattle.dd_blocks.specs.PlanElements.{IsElement, block_in_grid, block_of_element, element_of, elements, elements_of, grid_of, number_of, place_of_element}

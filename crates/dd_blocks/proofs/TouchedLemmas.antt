@@ -1,5 +1,5 @@
 -- The blocks that a task touches are those of the elements of its accesses.
-use Rattle.std.proofs.Common.{◌≡◌, ℕ, ◌<◌, List, length, get_or, refl, arith}
+use Rattle.std.proofs.Common.{ℕ, List, get_or, refl}
 use Rattle.std.specs.List.{All, Contains}
 use Rattle.std.proofs.lemmas.List.Elements.{All-contains_itself}
 use Rattle.dd_views.specs.IndexList.{index_list}

@@ -1,5 +1,5 @@
 -- How arrays and their blocks are numbered, and where the blocks have their first homes.
-use Rattle.std.specs.Prelude.{◌≡◌, ℕ, ◌+◌, ◌-◌, ◌%◌, ◌<◌, List, map, length, take, All, sum_by}
+use Rattle.std.specs.Prelude.{◌≡◌, ℕ, ◌+◌, ◌-◌, ◌%◌, ◌<◌, List, map, length, take, sum_by}
 use Rattle.std.specs.List.{flat_map, range_with_len}
 use Rattle.dd_blocks.specs.declared.array_row.ArrayRow.{ArrayRow}
 use Rattle.dd_blocks.specs.declared.block_row.BlockRow.{BlockRow}

@@ -1,6 +1,6 @@
 -- The lines on which the statements of a Plan stand. A written script has one row a line at most; a well-formed Plan says
 -- only that the lines don't fall.
-use Rattle.std.specs.Prelude.{ℕ, map}
+use Rattle.std.specs.Prelude.{map}
 use Rattle.std.specs.List.Sorted.{IsStrictlyIncreasing}
 use Rattle.dd_blocks.specs.declared.plan.Plan.{Plan}
 use Rattle.dd_blocks.specs.declared.statement_row.StatementRow.{StatementRow}

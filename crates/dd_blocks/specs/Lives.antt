@@ -1,5 +1,5 @@
 -- Which arrays are there when a statement begins, by the rows above it.
-use Rattle.std.specs.Prelude.{◌≡◌, ◌↔◌, ℕ, zero, suc, ◌+◌, ◌<◌, Bool, true, false, nat_eq, List, [], ◌∷◌, length, take, slice_index_or, All, Any, Contains, count_by, Option, None, Some}
+use Rattle.std.specs.Prelude.{◌≡◌, ◌↔◌, ℕ, suc, ◌<◌, Bool, true, false, nat_eq, List, [], ◌∷◌, length, take, slice_index_or, All, Any, Contains, count_by, Option, None, Some}
 use Rattle.std.specs.List.{filter, filter_map, flat_map, range_with_len}
 use Rattle.dd_blocks.specs.declared.access_row.AccessRow.{AccessRow}
 use Rattle.dd_blocks.specs.declared.plan.Plan.{Plan}

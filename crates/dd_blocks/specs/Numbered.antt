@@ -1,5 +1,5 @@
 -- The rows of a Plan by their numbers, which go from 1. Where there is no row of a number, a row of zeros stands for it.
-use Rattle.std.specs.Prelude.{ℕ, zero, suc, ◌≤◌, ℤ, pos, List, [], length, slice_index_or}
+use Rattle.std.specs.Prelude.{ℕ, zero, suc, ◌≤◌, pos, List, [], length, slice_index_or}
 use Rattle.dd_kernels.specs.declared.kernel.Kernel.TheVariants.{Fill}
 use Rattle.dd_blocks.specs.declared.array_row.ArrayRow.{ArrayRow}
 use Rattle.dd_blocks.specs.declared.block_row.BlockRow.{BlockRow}

@@ -1,5 +1,5 @@
 -- What is known of an array and of an access of a Plan whose blocks have rows.
-use Rattle.std.specs.Prelude.{ℕ, ◌+◌, ◌≤◌, length}
+use Rattle.std.specs.Prelude.{◌+◌, ◌≤◌, length}
 use Rattle.dd_views.specs.Views.{IsViewOf}
 use Rattle.dd_blocks.specs.declared.access_row.AccessRow.{AccessRow}
 use Rattle.dd_blocks.specs.declared.array_row.ArrayRow.{ArrayRow}

@@ -18,7 +18,7 @@ use Rattle.dd_blocks.proofs.ArrayHomesLemmas.{moved_push}
 use Rattle.dd_check.specs.declared.draft.Draft.{Draft}
 use Rattle.dd_check.specs.Ahead.{AsksAll, CountsAhead, one_if}
 use Rattle.dd_check.specs.Drafts.{Counts}
-use Rattle.dd_check.specs.Entering.{add_statement}
+use Rattle.dd_check.specs.Effects.{add_statement}
 
 regroup : (a b c : ℕ) → a + (b + c) ≡ a + b + c
 regroup a b c = omega arith

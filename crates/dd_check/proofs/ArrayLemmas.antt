@@ -21,7 +21,7 @@ use Rattle.dd_blocks.specs.Touches.{touches_in}
 use Rattle.dd_blocks.specs.WellFormed.{FitsHomes, HasShortName, HasSmallEdges, IsFromOneTo, TaskNamesRows}
 use Rattle.dd_script.specs.declared.statement.Statement.TheVariants.{Array}
 use Rattle.dd_check.specs.Above.{Above, open_tasks_of}
-use Rattle.dd_check.specs.Entering.{add_array, add_statement, with_name, with_plan}
+use Rattle.dd_check.specs.Effects.{add_array, add_statement, with_name, with_plan}
 use Rattle.dd_check.specs.Kinds.{is_edge, is_too_large}
 use Rattle.dd_check.specs.Rows.{grid_of, next_array}
 use Rattle.dd_check.specs.Sound.{AreSoundNames, IsSound}

@@ -20,7 +20,7 @@ use Rattle.dd_blocks.specs.Touches.{touches_in}
 use Rattle.dd_blocks.specs.WellFormed.{HasShortName, IsRegion, IsSmallRegion, TaskNamesRows}
 use Rattle.dd_blocks.specs.OfPlan.{HasBlocks}
 use Rattle.dd_check.specs.Above.{Above, next_region, open_tasks}
-use Rattle.dd_check.specs.Entering.{add_statement, add_tasks, with_open, with_plan}
+use Rattle.dd_check.specs.Effects.{add_statement, add_tasks, with_open, with_plan}
 use Rattle.dd_check.specs.Rows.{with_deps, with_found}
 use Rattle.dd_check.specs.Sound.{AreSoundNames, IsOpenTask, IsSound}
 use Rattle.dd_check.proofs.OwnBlocksLemmas.{All_flat_map}

@@ -20,7 +20,7 @@ use Rattle.dd_check.specs.declared.fault.Fault.{Fault}
 use Rattle.dd_check.specs.declared.kind.Kind.{Kind}
 use Rattle.dd_check.specs.declared.kind.Kind.TheVariants.{NotText, BadForm, UnknownStatement, BadNumber, UnknownPart, UnendedRegion}
 use Rattle.dd_check.specs.Above.{Above, OpenRegion, found_by, nothing_above, settle}
-use Rattle.dd_check.specs.Entering.{Enters, add_task}
+use Rattle.dd_check.specs.Effects.{Enters, add_task}
 use Rattle.dd_check.specs.Faults.{AreClear, AreTaken, IsClear, IsFault, IsFirstOf, IsPlanOf, IsRefused, IsRefusedIn, IsTaken, IsUnread, kinds, too_long}
 use Rattle.dd_check.specs.Sound.{IsSound}
 use Rattle.std.proofs.Common.{zero, ◌++◌, add-one}

@@ -11,7 +11,7 @@ use Rattle.dd_script.specs.Reads.{Reads}
 use Rattle.dd_script.specs.Short.{IsShort}
 use Rattle.dd_script.proofs.ShortLemmas.{short_reading}
 use Rattle.dd_check.specs.Above.{Above, found_by, is_machine, nothing_above, open_tasks}
-use Rattle.dd_check.specs.Entering.{Enters}
+use Rattle.dd_check.specs.Effects.{Enters}
 use Rattle.dd_check.specs.Faults.{AreClear, AreTaken, IsPlanOf, IsTaken, kinds}
 use Rattle.dd_check.specs.Rows.{AreJoined}
 use Rattle.dd_check.specs.Sound.{IsSound}

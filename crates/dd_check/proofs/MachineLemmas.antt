@@ -24,7 +24,7 @@ use Rattle.dd_blocks.specs.WellFormed.{IsSmallSpace, TaskNamesRows}
 use Rattle.dd_script.specs.declared.statement.Statement.TheVariants.{Space, Proc}
 use Rattle.dd_script.specs.Short.{IsShort}
 use Rattle.dd_check.specs.Above.{Above, OpenRegion, main_proc, main_space, number_at, settle, space_named}
-use Rattle.dd_check.specs.Entering.{add_proc, add_space, set_policy, set_rule, space_of_name, with_plan}
+use Rattle.dd_check.specs.Effects.{add_proc, add_space, set_policy, set_rule, space_of_name, with_plan}
 use Rattle.dd_check.specs.Sound.{IsSound}
 use Rattle.dd_check.proofs.BareLemmas.{IsSmallMachine, bare, bare_above, bare_sound}
 use Rattle.dd_check.proofs.RowsLemmas.{IsNumberIn_more}

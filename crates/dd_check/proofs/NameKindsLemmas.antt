@@ -6,7 +6,7 @@ use Rattle.dd_blocks.specs.Lives.{IsLive, names_ended, names_given}
 use Rattle.dd_blocks.specs.Numbered.{IsNumberIn}
 use Rattle.dd_script.specs.declared.statement.Statement.TheVariants.{Same, Drop}
 use Rattle.dd_check.specs.Above.{Above, array_named}
-use Rattle.dd_check.specs.Entering.{add_row, with_name}
+use Rattle.dd_check.specs.Effects.{add_row, with_name}
 use Rattle.dd_check.specs.Kinds.{array_of_name}
 use Rattle.dd_check.specs.Sound.{AreSoundNames, HasNames, IsSound}
 use Rattle.dd_check.proofs.ClearLemmas.{Clear, closed_for, named, unnamed}

@@ -6,7 +6,7 @@ use Rattle.dd_script.specs.declared.statement.Statement.{Statement}
 use Rattle.dd_script.specs.declared.statement.Statement.TheVariants.{Space, Proc, PolicyIs, PlaceIs, Array, Same, Drop, MoveTo, Region, Task, End, Print, Sum, Moved}
 use Rattle.std.proofs.Common.{None}
 use Rattle.dd_check.specs.Above.{Above, next_region, open_tasks}
-use Rattle.dd_check.specs.Entering.{Enters, add_statement, add_task, add_tasks, with_open, with_plan}
+use Rattle.dd_check.specs.Effects.{Enters, add_statement, add_task, add_tasks, with_open, with_plan}
 use Rattle.dd_check.proofs.OneTaskLemmas.{one_joined, one_task}
 
 -- an end leaves this, with such tasks

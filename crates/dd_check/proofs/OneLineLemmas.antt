@@ -12,7 +12,7 @@ use Rattle.dd_check.specs.declared.fault.Fault.{Fault}
 use Rattle.dd_check.specs.declared.kind.Kind.{Kind}
 use Rattle.dd_check.specs.declared.kind.Kind.TheVariants.{NotText, BadForm, UnknownStatement, BadNumber, UnknownPart, UnendedRegion}
 use Rattle.dd_check.specs.Above.{Above, found_by}
-use Rattle.dd_check.specs.Entering.{Enters}
+use Rattle.dd_check.specs.Effects.{Enters}
 use Rattle.dd_check.specs.Faults.{AreClear, IsFirstOf, IsRefused, IsTaken, IsUnread, Plain, kinds}
 use Rattle.dd_check.proofs.OneEnteredLemmas.{one_entered}
 use Rattle.dd_check.proofs.OneFoundLemmas.{found_not_clear, one_found, same_fault}

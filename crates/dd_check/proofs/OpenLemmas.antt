@@ -10,7 +10,7 @@ use Rattle.dd_blocks.specs.Limits.{region_elements_limit, region_tasks_limit, to
 use Rattle.dd_blocks.specs.Touches.{touches_in}
 use Rattle.dd_script.specs.declared.statement.Statement.TheVariants.{Region}
 use Rattle.dd_check.specs.Above.{Above, OpenRegion, open_tasks, open_tasks_of}
-use Rattle.dd_check.specs.Entering.{add_task, line_opened, with_open}
+use Rattle.dd_check.specs.Effects.{add_task, line_opened, with_open}
 use Rattle.dd_check.specs.Sound.{IsOpenTask, IsSound, IsSoundRegion}
 use Rattle.dd_check.proofs.ClearLemmas.{Clear}
 use Rattle.dd_check.proofs.PushLemmas.{IsReady, line_kept, no_tasks_region, ready_machine}

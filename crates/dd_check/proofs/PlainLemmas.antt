@@ -14,7 +14,7 @@ use Rattle.dd_blocks.specs.Touches.{touches_in, touches_of}
 use Rattle.dd_blocks.specs.WellFormed.{HasShortName, StatementNamesRows, TaskNamesRows}
 use Rattle.dd_blocks.specs.Numbered.{no_task}
 use Rattle.dd_check.specs.Above.{Above, open_tasks, open_tasks_of}
-use Rattle.dd_check.specs.Entering.{add_statement}
+use Rattle.dd_check.specs.Effects.{add_statement}
 use Rattle.dd_check.specs.Sound.{AreSoundNames, IsSound}
 use Rattle.dd_check.proofs.RowsLemmas.{All_numbered}
 use Rattle.dd_check.proofs.ExtendsLemmas.{Extends, statement_names_kept, task_kept, task_names_kept, used_kept, touches_kept}

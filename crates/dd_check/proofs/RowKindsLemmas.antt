@@ -17,7 +17,7 @@ use Rattle.dd_blocks.specs.Touches.{touches_in}
 use Rattle.dd_script.specs.declared.statement.Statement.{Statement}
 use Rattle.dd_script.specs.declared.statement.Statement.TheVariants.{MoveTo, Print, Sum, Moved}
 use Rattle.dd_check.specs.Above.{Above, array_named, is_machine}
-use Rattle.dd_check.specs.Entering.{add_row, space_of_name}
+use Rattle.dd_check.specs.Effects.{add_row, space_of_name}
 use Rattle.dd_check.specs.Kinds.{AreAmounts, array_of_name, is_too_large, touches_with}
 use Rattle.dd_check.specs.Sound.{IsSound}
 use Rattle.dd_check.proofs.OwnBlocksLemmas.{own_blocks}

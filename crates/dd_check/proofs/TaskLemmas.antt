@@ -31,7 +31,7 @@ use Rattle.dd_check.specs.Above.{Above}
 use Rattle.dd_check.specs.Drafts.{IsSoundDraft, Sums, SumsOpen, above_of, region_of}
 use Rattle.dd_check.specs.Rows.{AreAccesses, IsTask}
 use Rattle.dd_check.specs.Seen.{AreSeen, IsSeen}
-use Rattle.dd_check.specs.Small.{IsSmallAccess}
+use Rattle.dd_touch.specs.Small.{IsSmallAccess}
 use Rattle.dd_check.specs.Sound.{IsSound}
 use Rattle.dd_check.proofs.BlocksLemmas.{length_blocks}
 use Rattle.dd_check.proofs.KnownLemmas.{few_elements}

@@ -11,7 +11,7 @@ use Rattle.dd_blocks.specs.Touches.{touches_in}
 use Rattle.dd_check.specs.declared.draft.Draft.{Draft}
 use Rattle.dd_check.specs.declared.opened.Opened.{Opened}
 use Rattle.dd_check.specs.Above.{Above, OpenRegion}
-use Rattle.dd_check.specs.Naming.{array_by}
+use Rattle.dd_check.specs.Lookup.{array_by}
 use Rattle.dd_check.specs.Sound.{IsSound}
 
 abbrev pub region_of : Opened → OpenRegion

@@ -13,7 +13,7 @@ use Rattle.dd_check.specs.declared.fault.Fault.{Fault}
 use Rattle.dd_check.specs.declared.kind.Kind.{Kind}
 use Rattle.dd_check.specs.declared.kind.Kind.TheVariants.{NotText, TooLong, BadForm, UnknownStatement, BadNumber, UnknownPart, UnknownName, NameTaken, LateMachine, NoProc, BadShape, UnknownKernel, ArgCount, BadAccess, BadRange, NotSquare, ShapeMismatch, WrongPlace, TooMany, BlockTooLarge, TaskTooLarge, UnendedRegion}
 use Rattle.dd_check.specs.Above.{Above, OpenRegion, found_by, nothing_above, settle}
-use Rattle.dd_check.specs.Entering.{Enters}
+use Rattle.dd_check.specs.Effects.{Enters}
 use Rattle.dd_check.specs.Kinds.{HasUnknownName, HasTakenName, IsLate, HasNoProc, HasBadShape, HasUnknownKernel, HasArgCount, HasBadAccess, HasRangeFault, HasNoSquare, HasMismatch, IsMisplaced, HasTooMany, HasLargeBlock, HasLargeTask}
 
 -- neither of a kind's two numbers is given

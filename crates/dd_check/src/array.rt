@@ -17,7 +17,10 @@ pub(crate) fn array_of(draft: &Draft, name: &Name) -> u32
     ensures value { result ≡ array_of_name (above_of draft.now) name.now }
     ensures within { IsNumberIn draft.now.plan.arrays result }
 {
-    draft.names.array(name.as_bytes()).unwrap_or(0)
+    match draft.names.array(name.as_bytes()) {
+        Some(array) => array,
+        None => unreachable!(),
+    }
 }
 
 /// The grid of an array, by its number.
@@ -28,5 +31,5 @@ pub(crate) fn grid_at(draft: &Draft, array: u32) -> Grid
     ensures grid { IsGrid result }
     ensures few { element_count result ≤ elements_limit }
 {
-    draft.plan.arrays.as_slice()[array as usize - 1].grid
+    draft.plan.array(array).grid
 }

@@ -6,15 +6,13 @@ ghost use Rattle.dd_check.specs.Kinds.{HasBadShape, is_edge};
 ghost use Rattle.dd_check.specs.Rows.{grid_of};
 
 use dd_blocks::Grid;
+use dd_blocks::limits::EDGE_LIMIT;
 use dd_script::Statement;
-
-/// The most rows and columns of an array and of its blocks.
-const EDGE_LIMIT: i64 = 4_194_304;
 
 fn is_edge(length: i64) -> bool
     ensures { result ≡ is_edge length }
 {
-    1 <= length && length <= EDGE_LIMIT
+    1 <= length && length <= EDGE_LIMIT as i64
 }
 
 /// Whether the statement makes an array with an edge that is too short or too long.

@@ -14,12 +14,12 @@ ghost use Rattle.dd_check.specs.Seen.{AreSeen, IsKnown};
 
 use crate::accesses::{accesses_of, has_bad_range, has_no_square, shapes_of};
 use crate::arguments::{given, has_right_count, has_right_modes, wanted};
+use crate::context::{has_no_proc, is_late};
 use crate::draft::Draft;
 use crate::edges::has_bad_shape;
 use crate::fault::{AcceptFault, Fault};
 use crate::kind::Kind;
-use crate::naming::{has_taken_name, has_unknown_name};
-use crate::standing::{has_no_proc, is_late};
+use crate::lookup::{has_taken_name, has_unknown_name};
 use dd_blocks::{AccessRow, Name};
 use dd_kernels::{Kernel, kernel_named, shapes_fit};
 use dd_script::{Piece, Statement};

@@ -8,54 +8,46 @@
 //! }
 //! ```
 //!
-//! A script has one Plan or one first fault, never both and never neither: the least kind that holds on the first line that
-//! has one. The Plan is well formed, so whoever takes it need not look at it again.
+//! A script has one Plan or one first fault, never both and never neither: the least kind that holds on the first line
+//! that has one. The Plan is well formed, so whoever takes it need not look at it again.
 //!
-//! The text is gone through once, line by line. Names are found by a hash map, and no list of elements is made: the blocks
-//! that a task touches follow from the places of its views' rows and columns, from one piece of an edge to the next. The
-//! spaces to which arrays were moved are kept from line to line, so no row is gone through to place a task.
+//! The text is gone through once, line by line. Names are found by a hash map. The spaces to which arrays were moved are
+//! kept from line to line, so no row is gone through to place a task.
 //!
-//! Inside, `line` reads a line, `taking` asks the kinds of fault of a statement in their order and lets it enter, and
-//! `script` goes from line to line. The kinds stand in `naming`, `standing`, `edges`, `arguments`, `accesses`, `passing` and
-//! `placed`, and `kinds` joins those of a task's arguments. `touched`, `pieces`, `places`, `charge` and `task` make the row of
-//! a task. `entering` adds what a statement leaves to the `draft`, by `row`, `making`, `renaming`, `joining`, `pushing` and
-//! `machine`.
-//! The definitions to believe are `specs/Above.antt`, `Rows.antt`, `Kinds.antt`, `Entering.antt`, `Lines.antt` and
-//! `Faults.antt`; the others are cited by private contracts alone. [`laws`] has what holds of all texts.
+//! Inside, `script` goes from line to line, and `line` reads one. `admission` asks the kinds of fault of a statement in
+//! their order: those in `lookup`, `context`, `edges`, `arguments`, `accesses`, `limits` and `block_fit`, joined by
+//! `kinds`. `effects` adds what a statement leaves to the `draft`, by `row`, `new_array`, `array_names`, `region_end` and
+//! `machine`; `task` and `region_task` do so for a task. Believe `specs/Above.antt`, `Rows.antt`, `Kinds.antt`,
+//! `Effects.antt`, `Lines.antt` and `Faults.antt`; private contracts alone cite the others.
 #![tactic(auto)]
 
 mod accesses;
+mod admission;
 mod arguments;
 mod array;
-mod charge;
+mod array_names;
+mod block_fit;
+mod context;
 mod draft;
 mod edges;
-mod entering;
+mod effects;
 mod fault;
-mod joining;
 mod kind;
 mod kinds;
 pub mod laws;
 mod limits;
 mod line;
 mod lines;
+mod lookup;
 mod machine;
-mod making;
 mod names;
-mod naming;
+mod new_array;
 mod opened;
-mod passing;
-mod pieces;
-mod placed;
-mod places;
-mod pushing;
-mod renaming;
+mod region_end;
+mod region_task;
 mod row;
 mod script;
-mod standing;
-mod taking;
 mod task;
-mod touched;
 
 pub use fault::{AcceptFault, Fault};
 pub use kind::Kind;

@@ -1,5 +1,5 @@
 ghost use Rattle.std.specs.Prelude.{◌≡◌, None, Some, OnOk};
-ghost use Rattle.dd_check.specs.Naming.{array_by, NamesNothing, Renames};
+ghost use Rattle.dd_check.specs.Lookup.{array_by, NamesNothing, Renames};
 
 use indexmap::IndexMap;
 use std::alloc::{AllocError, Global};

@@ -3,7 +3,7 @@ ghost use Rattle.std.specs.Prelude.{◌≡◌, OnOk};
 ghost use Rattle.dd_blocks.specs.Numbered.{IsNumberIn};
 ghost use Rattle.dd_check.specs.Ahead.{AsksAll, CountsAhead};
 ghost use Rattle.dd_check.specs.Drafts.{Counts, IsSoundDraft, above_of};
-ghost use Rattle.dd_check.specs.Entering.{add_row};
+ghost use Rattle.dd_check.specs.Effects.{add_row};
 
 use crate::array::grid_at;
 use crate::draft::Draft;

@@ -8,13 +8,13 @@ ghost use Rattle.dd_check.specs.Drafts.{Counts, above_of};
 ghost use Rattle.dd_check.specs.Faults.{IsAcceptFault, IsOnlyPlanOf, IsTaken};
 ghost use Rattle.dd_check.specs.Sound.{IsSound};
 
+use crate::admission::admit;
 use crate::draft::Draft;
 use crate::fault::{AcceptFault, Fault};
 use crate::kind::Kind;
 use crate::line::said;
 use crate::lines::first_line;
 use crate::machine::settle;
-use crate::taking::take;
 use dd_blocks::Plan;
 use std::alloc::Global;
 
@@ -30,7 +30,7 @@ fn read_line(alloc: Global, draft: &mut Draft, above: u32, bytes: &[u8]) -> Resu
 {
     let line = above + 1;
     match said(alloc, line, bytes)? {
-        Some(x) => take(alloc, draft, line, x),
+        Some(x) => admit(alloc, draft, line, x),
         None => Ok(()),
     }
 }

@@ -7,13 +7,12 @@ ghost use Rattle.dd_check.specs.Drafts.{IsSoundDraft, above_of};
 ghost use Rattle.dd_check.specs.Rows.{AreAccesses, IsTask};
 ghost use Rattle.dd_check.specs.Seen.{AreSeen};
 
-use crate::charge::charge_of;
 use crate::draft::Draft;
 use crate::opened::Opened;
-use crate::touched::touched_blocks;
 use dd_blocks::{AccessRow, TaskRow};
 use dd_kernels::Kernel;
 use dd_place::place_by;
+use dd_touch::{charge_of, touched_blocks};
 use dd_views::Items;
 use std::alloc::{AllocError, Global};
 

@@ -1,6 +1,6 @@
 -- Tests and facts over lists, and over lists that are made of lists.
 use Rattle.std.proofs.Common.{◌≡◌, ℕ, zero, suc, ◌+◌, ◌-◌, ◌<◌, ◌≤◌, Bool, true, false, cond, ◌&&◌, ◌||◌, eqb, List, [], ◌∷◌, ◌++◌, length, get_or, map, take, refl, sym, ap, subst, ◌∙◌, arith, ⊎_elim}
-use Rattle.std.specs.List.{All, Contains, filter, flat_map, list_any}
+use Rattle.std.specs.List.{All, Contains, filter, flat_map, list_any, range_with_len}
 use Rattle.std.proofs.lemmas.Bool.{cases_lt, eq-eqb, eqb-true}
 use Rattle.std.proofs.lemmas.List.{length-append, map-append}
 use Rattle.std.proofs.lemmas.List.Elements.{All-append, All-head, All-nil, All-tail, Contains-append_left, Contains-append_right}
@@ -132,3 +132,21 @@ filter_none p [] all = refl
 filter_none {X = X} p (x ∷ xs) all =
     let P : X → Type 0 = λ y. p y ≡ false in
     ap (λ (b : Bool). cond b (x ∷ filter p xs) (filter p xs)) (All-head P x xs all) ∙ filter_none p xs (All-tail P x xs all)
+
+-- the next of the numbers that are left
+pub next_left : {X : Type 0} (f : ℕ → List X) (i n : ℕ) → i < n → flat_map f (range_with_len i (n - i)) ≡ f i ++ flat_map f (range_with_len (i + 1) (n - (i + 1)))
+next_left f i n l =
+    let e : n - i ≡ suc (n - (i + 1)) = omega arith in
+    ap (λ k. flat_map f (range_with_len i k)) e
+
+-- two maps of as many numbers that give the same
+pub same_map : {X : Type 0} (f g : ℕ → X) (a b n : ℕ) → ((i : ℕ) → i < n → f (a + i) ≡ g (b + i)) → map f (range_with_len a n) ≡ map g (range_with_len b n)
+same_map f g a b zero same = refl
+same_map f g a b (suc n) same =
+    let none_a : a + 0 ≡ a = omega arith in
+    let none_b : b + 0 ≡ b = omega arith in
+    let head : f a ≡ g b = rw none_a at (rw none_b at (same 0 (omega arith))) in
+    rw head (ap (λ xs. g b ∷ xs) (same_map f g (a + 1) (b + 1) n (λ i lt.
+    let next_a : a + 1 + i ≡ a + suc i = omega arith in
+    let next_b : b + 1 + i ≡ b + suc i = omega arith in
+    rw (next_a, next_b) (same (suc i) (omega arith)))))

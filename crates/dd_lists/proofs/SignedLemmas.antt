@@ -1,5 +1,5 @@
 -- Signed numbers, by their bits.
-use Rattle.std.proofs.Common.{◌≡◌, ◌^◌, ℤ, pos, negsuc, ap, arith}
+use Rattle.std.proofs.Common.{◌≡◌, ℤ, pos, negsuc, ap, arith}
 use Rattle.std.specs.Int.{w64, cast_unsigned}
 use Rattle.std.specs.Int.RustNames.{FitsSigned}
 use Rattle.std.proofs.lemmas.Int.{ints}

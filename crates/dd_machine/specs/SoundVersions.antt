@@ -2,14 +2,14 @@
 use Rattle.std.specs.Prelude.{◌≡◌, ◌≢◌, ◌⊎◌, ℕ, ◌≤◌, ◌<◌, true, false, length, Some}
 use Rattle.dd_blocks.specs.declared.plan.Plan.{Plan}
 use Rattle.dd_blocks.specs.Numbered.{task_row}
-use Rattle.dd_meaning.specs.Versions.{needed_version}
+use Rattle.dd_meaning.specs.Versions.{last_writer_among, needed_version}
 use Rattle.dd_blocks.specs.Elements.{Element}
 use Rattle.dd_machine.specs.declared.task_state.TaskState.TheVariants.{Done}
 use Rattle.dd_machine.specs.Legal.{AllDone}
 use Rattle.dd_machine.specs.Needed.{source, version}
 use Rattle.dd_machine.specs.States.{State, blank}
-use Rattle.dd_machine.specs.Tests.{Has, is_any, is_running, is_waiting, versions_of}
-use Rattle.dd_machine.specs.Words.{IsOf, element, size, has_number, place, reads, writes}
+use Rattle.dd_machine.specs.Tests.{Has, is_any, is_done, is_running, is_waiting, versions_of}
+use Rattle.dd_machine.specs.Words.{IsOf, element, has_number, place, reads, size, tasks, writes}
 
 -- a version that some copy has of an element: at most the current one, and 0 or that of a task that is done and writes it
 abbrev pub IsKnown : Plan → State → Element → ℕ → Type 0
@@ -24,6 +24,8 @@ abbrev pub StillCounts : Plan → State → ℕ → ℕ → Type 0
 StillCounts plan st region t = (is_running (st.tasks t) ≡ true) ⊎ ((st.tasks t ≡ Done) × ((u : ℕ) × IsOf plan region u × (st.tasks u ≢ Done)))
 
 pub record SoundVersions (plan : Plan) (st : State) : Type 0 where
+  -- the current version of an element is the greatest done task that writes it, or 0
+  pub current_is : (e : Element) → st.current e ≡ last_writer_among plan (λ t. is_done (st.tasks t)) e (tasks plan)
   -- a task that doesn't wait has its dependencies done; no done task writes an element above its current version
   pub deps_done : (t d : ℕ) → is_waiting (st.tasks t) ≡ false → has_number (task_row plan t).deps d ≡ true → st.tasks d ≡ Done
   pub current_last : (e : Element) (u : ℕ) → st.tasks u ≡ Done → writes plan u e ≡ true → u ≤ st.current e

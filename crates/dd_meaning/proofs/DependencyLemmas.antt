@@ -1,9 +1,9 @@
 -- A version that a task reads was made by a task that must precede it.
-use Rattle.std.proofs.Common.{◌≡◌, ◌≢◌, ℕ, ◌+◌, ◌-◌, ◌<◌, ◌≤◌, true, arith}
+use Rattle.std.proofs.Common.{◌≡◌, ◌≢◌, ℕ, ◌-◌, ◌<◌, true, arith}
 use Rattle.std.specs.List.{Contains}
 use Rattle.dd_blocks.specs.declared.plan.Plan.{Plan}
 use Rattle.dd_blocks.specs.Elements.{Element, task_reads, task_writes}
-use Rattle.dd_blocks.specs.Numbered.{IsNumberIn, task_row}
+use Rattle.dd_blocks.specs.Numbered.{task_row}
 use Rattle.dd_blocks.specs.WellFormed.{IsWellFormed}
 use Rattle.dd_blocks.proofs.ElementsLemmas.{conflict_of, reader_within, use_of_read}
 use Rattle.dd_meaning.specs.Versions.{needed_version}

@@ -1,5 +1,5 @@
 -- The home of an element when a region begins is a space of the Plan.
-use Rattle.std.proofs.Common.{◌≡◌, ℕ, ◌-◌, ◌<◌, ◌≤◌, Option, None, Some, List, length, take, sym, subst, arith}
+use Rattle.std.proofs.Common.{ℕ, ◌-◌, Option, None, Some, List, take, sym, subst, arith}
 use Rattle.std.specs.Option.{unwrap_or}
 use Rattle.std.specs.List.{last_or}
 use Rattle.std.proofs.lemmas.List.Elements.{All-get_or, All-take}

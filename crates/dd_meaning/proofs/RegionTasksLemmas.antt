@@ -25,32 +25,32 @@ use Rattle.dd_meaning.specs.Worlds.{filled_world}
 -- ---- by their rows
 
 -- tasks that stand region by region
-abbrev Rising : List TaskRow → Type 0
+abbrev pub Rising : List TaskRow → Type 0
 Rising tasks = IsNonDecreasingBy (λ (t : TaskRow). t.region) tasks
 
-rising_tail : (t : TaskRow) (more : List TaskRow) → Rising (t ∷ more) → Rising more
+pub rising_tail : (t : TaskRow) (more : List TaskRow) → Rising (t ∷ more) → Rising more
 rising_tail t more h = λ i j d le lt. h (suc i) (suc j) d (omega arith) (omega (arith, lt))
 
 later : (t : TaskRow) (more : List TaskRow) (n : ℕ) → Rising (t ∷ more) → n ≤ t.region → All (λ (u : TaskRow). n ≤ u.region) more
 later t more n h le = λ k d lt. omega (arith, le, h 0 (suc k) d (omega arith) (omega (arith, lt)))
 
-all_later : (t : TaskRow) (more : List TaskRow) (n : ℕ) → Rising (t ∷ more) → n ≤ t.region → All (λ (u : TaskRow). n ≤ u.region) (t ∷ more)
+pub all_later : (t : TaskRow) (more : List TaskRow) (n : ℕ) → Rising (t ∷ more) → n ≤ t.region → All (λ (u : TaskRow). n ≤ u.region) (t ∷ more)
 all_later t more n h le = λ k d lt. omega (arith, le, h 0 k d (omega arith) lt)
 
 -- how many tasks there are up to a region
-abbrev through : ℕ → List TaskRow → ℕ
+abbrev pub through : ℕ → List TaskRow → ℕ
 through n tasks = count_by (λ (t : TaskRow). leb t.region n) tasks
 
 through_cons : (n : ℕ) (t : TaskRow) (more : List TaskRow) → through n (t ∷ more) ≡ cond (leb t.region n) 1 0 + through n more
 through_cons n t more = sum_by-cons (λ (u : TaskRow). cond (leb u.region n) 1 0) t more
 
-through_yes : (n : ℕ) (t : TaskRow) (more : List TaskRow) → t.region ≤ n → through n (t ∷ more) ≡ suc (through n more)
+pub through_yes : (n : ℕ) (t : TaskRow) (more : List TaskRow) → t.region ≤ n → through n (t ∷ more) ≡ suc (through n more)
 through_yes n t more le = let hit : leb t.region n ≡ true = grind (arith, nat_tests) in through_cons n t more ∙ (rw hit (omega arith))
 
-through_no : (n : ℕ) (t : TaskRow) (more : List TaskRow) → n < t.region → through n (t ∷ more) ≡ through n more
+pub through_no : (n : ℕ) (t : TaskRow) (more : List TaskRow) → n < t.region → through n (t ∷ more) ≡ through n more
 through_no n t more gt = let miss : leb t.region n ≡ false = grind (arith, nat_tests) in through_cons n t more ∙ (rw miss (omega arith))
 
-through_none : (n : ℕ) (tasks : List TaskRow) → All (λ (u : TaskRow). suc n ≤ u.region) tasks → through n tasks ≡ 0
+pub through_none : (n : ℕ) (tasks : List TaskRow) → All (λ (u : TaskRow). suc n ≤ u.region) tasks → through n tasks ≡ 0
 through_none n [] h = refl
 through_none n (t ∷ more) h = through_no n t more (h 0 t (omega arith)) ∙ through_none n more (λ k d lt. h (suc k) d (omega (arith, lt)))
 

@@ -1,5 +1,5 @@
 -- The text of a script is that of its rows.
-use Rattle.std.proofs.Common.{◌≡◌, ℕ, List, [], ◌++◌, length}
+use Rattle.std.proofs.Common.{◌≡◌, [], ◌++◌, length}
 use Rattle.std.specs.List.{flat_map, range_with_len}
 use Rattle.std.proofs.lemmas.List.{append-nil}
 use Rattle.dd_lists.proofs.ListsLemmas.{flat_map_same}

@@ -1,4 +1,3 @@
-pub mod PrintingLemmas
 pub mod SizesLemmas
 pub mod WalkLemmas
 pub mod ReadLemmas
@@ -11,4 +10,3 @@ pub mod HeldLemmas
 pub mod FewLemmas
 pub mod RegionLemmas
 pub mod RowLemmas
-pub mod BandLemmas

@@ -10,7 +10,7 @@ use Rattle.dd_kernels.specs.Table.{results}
 use Rattle.dd_kernels.proofs.ListsLemmas.{ap2}
 use Rattle.dd_meaning.specs.Steps.{put_at}
 use Rattle.dd_plain.specs.Runs.{Wrote, WroteBoth, all_at, all_put}
-use Rattle.dd_plain.proofs.TaskLemmas.{same_map}
+use Rattle.dd_lists.proofs.ListsLemmas.{same_map}
 use Rattle.dd_plain.proofs.WalkLemmas.{elements_run}
 use Rattle.dd_meaning.proofs.WorldLemmas.{length_put, put_run}
 

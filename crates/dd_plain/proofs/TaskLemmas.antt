@@ -8,6 +8,7 @@ use Rattle.std.proofs.lemmas.Int.{ints}
 use Rattle.std.proofs.lemmas.List.{get_or-map, map-id}
 use Rattle.std.proofs.lemmas.List.FromFn.{get_or-range_with_len, length-range_with_len}
 use Rattle.std.proofs.lemmas.List.Sums.{sum_by-cons}
+use Rattle.dd_lists.proofs.ListsLemmas.{same_map}
 use Rattle.dd_kernels.specs.Shapes.{size_of}
 use Rattle.dd_views.specs.declared.part.Part.{Part}
 use Rattle.dd_views.specs.declared.part.Part.TheVariants.{All as Whole, Lower, Upper, UnitLower, UnitUpper, Diag}
@@ -42,17 +43,6 @@ both_true true q h = (refl, h)
 both_true false q h = absurd (cc)
 
 -- the positions of a view of rows and columns that count from 1
-pub same_map : {X : Type 0} (f g : ℕ → X) (a b n : ℕ) → ((i : ℕ) → i < n → f (a + i) ≡ g (b + i)) → map f (range_with_len a n) ≡ map g (range_with_len b n)
-same_map f g a b zero same = refl
-same_map f g a b (suc n) same =
-    let none_a : a + 0 ≡ a = omega arith in
-    let none_b : b + 0 ≡ b = omega arith in
-    let head : f a ≡ g b = rw none_a at (rw none_b at (same 0 (omega arith))) in
-    rw head (ap (λ xs. g b ∷ xs) (same_map f g (a + 1) (b + 1) n (λ i lt.
-    let next_a : a + 1 + i ≡ a + suc i = omega arith in
-    let next_b : b + 1 + i ≡ b + suc i = omega arith in
-    rw (next_a, next_b) (same (suc i) (omega arith)))))
-
 columns_joined : (f : ℕ → List ℕ) (start height a n : ℕ) → ((j : ℕ) → j < n → f (suc (a + j)) ≡ range_with_len (start + (a + j) * height) height) → flat_map f (range_with_len (suc a) n) ≡ range_with_len (start + a * height) (n * height)
 columns_joined f start height a zero each = let none : 0 * height ≡ 0 = omega arith in rw none refl
 columns_joined f start height a (suc n) each =

@@ -4,4 +4,3 @@ pub mod Walks
 pub mod Lending
 pub mod Runs
 pub mod Rows
-pub mod Bands

@@ -10,13 +10,12 @@ ghost use Rattle.dd_meaning.specs.RegionRows.{RunsAt};
 ghost use Rattle.dd_plain.specs.Rows.{HasRun};
 ghost use Rattle.dd_plain.specs.Sizes.{HasSizes};
 
-use crate::fault::PlainFault;
-use crate::printing::{print_array, print_moved, print_sum};
 use crate::task::run_tasks;
 use crate::tasks::tasks_of;
 use crate::world::filled_world;
 use dd_blocks::{Plan, What};
 use dd_io::Sink;
+use dd_text::{PrintFault as PlainFault, print_array, print_moved, print_sum};
 use dd_transfers::Moves;
 use std::alloc::{AllocError, Global};
 

@@ -3,3 +3,4 @@ pub mod PlacesLemmas
 pub mod HeldLemmas
 pub mod PlanLemmas
 pub mod SpilledLemmas
+pub mod Crossing

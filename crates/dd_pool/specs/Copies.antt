@@ -3,6 +3,7 @@ use Rattle.std.specs.Prelude.{◌≡◌, ℕ, ◌*◌, ◌<◌, ◌≤◌, List,
 use Rattle.std.specs.List.{All}
 use Rattle.dd_stamps.specs.declared.stamped.Stamped.{Stamped}
 use Rattle.dd_stamps.specs.Cells.{size_of}
+use Rattle.dd_stamps.specs.Copies.{IsOfSameBlock}
 use Rattle.dd_pool.specs.declared.copies.Copies.{Copies}
 use Rattle.dd_pool.specs.Cells.{cell}
 use Rattle.dd_pool.specs.Held.{bytes_in}
@@ -31,3 +32,11 @@ pub record HoldsSame (old new : Copies) : Type 0 where
 pub record HasRoomFor (copy : Stamped) (places : List ℕ) : Type 0 where
   pub within : All (λ p. p < size_of copy.plan.now copy.block) places
   pub spare : 2 * length places ≤ copy.versions.spare
+
+-- the copy is as it was, but that it may have more spare
+pub record HasMoreSpare (old new : Stamped) : Type 0 where
+  pub same : IsOfSameBlock old new
+  pub told : new.told.mark ≡ old.told.mark
+  pub versions : new.versions.list ≡ old.versions.list
+  pub values : new.values.items ≡ old.values.items
+  pub spare : old.versions.spare ≤ new.versions.spare

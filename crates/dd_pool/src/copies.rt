@@ -7,7 +7,7 @@ use crate::cells::Cells;
 use crate::places::{bytes_of, cell_count, place_of};
 use dd_blocks::Plan;
 use dd_spans::Runs;
-use dd_stamps::Stamped;
+use dd_stamps::{Stamped, Work};
 use std::alloc::{AllocError, Global};
 
 /// The copies in the memory of each space: at most one of each block, each of the Plan.
@@ -27,8 +27,9 @@ pub(crate) struct Copies<'p> {
 
 impl<'p> Copies<'p> {
     ghost use Rattle.std.specs.Prelude.{◌≢◌, ℕ, Some, None, IfOk, OnOk, IfErr, OnErr, IsSome, IsSomeAnd, option_copied};
-    ghost use Rattle.dd_stamps.specs.Copies.{MayTake, TakesFrom};
-    ghost use Rattle.dd_pool.specs.Copies.{HasRoomFor, Holds, HoldsSame, held_at, held_bytes};
+    ghost use Rattle.dd_blocks.specs.WellFormed.{IsWellFormed};
+    ghost use Rattle.dd_stamps.specs.Copies.{MayStore, MayTake, Stores, TakesFrom};
+    ghost use Rattle.dd_pool.specs.Copies.{HasMoreSpare, HasRoomFor, Holds, HoldsSame, held_at, held_bytes};
     ghost use Rattle.dd_pool.specs.Keys.{AreBoth, AreThree};
     ghost use Rattle.dd_pool.specs.Places.{IsPlace};
 
@@ -106,6 +107,27 @@ impl<'p> Copies<'p> {
         }
     }
 
+    /// Makes the spare of a copy's versions at least so many runs.
+    ///
+    /// # Errors
+    /// Want of memory. The spare is no smaller than it was.
+    pub(crate) fn reserve(&mut self, space: u32, block: u32, runs: u64) -> Result<(), AllocError>
+        requires place { IsPlace self.old.plan.now space block }
+        requires there { IsSome (held_at self.old space block) }
+        ensures kept { AreBoth HasMoreSpare (held_at self.old space block) (held_at self.new space block) }
+        ensures ok { OnOk result (IsSomeAnd (held_at self.new space block) (λ c. runs ≤ c.versions.spare)) }
+        ensures others { (s b : ℕ) → IsPlace self.old.plan.now s b → (s ≡ space → b ≡ block → ⊥) → held_at self.new s b ≡ held_at self.old s b }
+        ensures plan { self.new.plan ≡ self.old.plan }
+    {
+        let at = place_of(self.plan, space, block);
+        let Some(mut copy) = self.cells.take(at) else {
+            unreachable!()
+        };
+        let reserved = copy.reserve(runs);
+        self.cells.put_back(at, copy);
+        reserved
+    }
+
     /// Some places of a copy take what another has.
     pub(crate) fn take_places(&mut self, space: u32, block: u32, other: &Stamped<'p>, places: &Runs)
         requires place { IsPlace self.old.plan.now space block }
@@ -142,6 +164,23 @@ impl<'p> Copies<'p> {
             unreachable!()
         };
         copy.take_from(other, places);
+        self.cells.put_back(at, copy);
+    }
+
+    /// The elements of a copy's block that a task writes take what it made.
+    pub(crate) fn store_outputs(&mut self, space: u32, block: u32, work: &Work<'p>)
+        requires well { IsWellFormed self.old.plan.now }
+        requires place { IsPlace self.old.plan.now space block }
+        requires there { IsSomeAnd (held_at self.old space block) (λ c. MayStore c work.now) }
+        ensures stored { AreBoth (λ c d. Stores c work.now d) (held_at self.old space block) (held_at self.new space block) }
+        ensures others { (s b : ℕ) → IsPlace self.old.plan.now s b → (s ≡ space → b ≡ block → ⊥) → held_at self.new s b ≡ held_at self.old s b }
+        ensures plan { self.new.plan ≡ self.old.plan }
+    {
+        let at = place_of(self.plan, space, block);
+        let Some(mut copy) = self.cells.take(at) else {
+            unreachable!()
+        };
+        copy.store_outputs(work);
         self.cells.put_back(at, copy);
     }
 }

@@ -9,7 +9,7 @@ use crate::places::{cell_count, place_of};
 use crate::spilled::Spilled;
 use dd_blocks::Plan;
 use dd_spans::Runs;
-use dd_stamps::Stamped;
+use dd_stamps::{Stamped, Work};
 use dd_store::Store;
 use std::alloc::{AllocError, Global};
 
@@ -29,8 +29,8 @@ pub struct Pool<'p, D: Store> {
 
 impl<'p, D: Store> Pool<'p, D> {
     ghost use Rattle.std.specs.Prelude.{◌≢◌, Some, None, IfOk, OnOk, IfErr, OnErr, IsSome, IsSomeAnd, option_copied};
-    ghost use Rattle.dd_stamps.specs.Copies.{MayTake, TakesFrom};
-    ghost use Rattle.dd_pool.specs.Copies.{HasRoomFor, HoldsSame};
+    ghost use Rattle.dd_stamps.specs.Copies.{MayStore, MayTake, Stores, TakesFrom};
+    ghost use Rattle.dd_pool.specs.Copies.{HasMoreSpare, HasRoomFor, HoldsSame};
     ghost use Rattle.dd_pool.specs.Keys.{AreBoth, AreThree};
     ghost use Rattle.dd_pool.specs.Pools.{HasCopy, HasNames, HasOut, KeepsCopies, KeepsRest, bytes_at, copy_at, names_of, out_at};
 
@@ -61,7 +61,8 @@ impl<'p, D: Store> Pool<'p, D> {
         self.copies.get(space, block)
     }
 
-    /// The bytes of the copies in the memory of a space: 8 times their elements. It takes no memory and no time.
+    /// The bytes of the copies in the memory of a space: 8 times their elements. It takes no memory, and goes through no
+    /// blocks.
     pub fn bytes(&self, space: u32) -> u64
         requires { IsNumberIn self.now.plan.now.spaces space }
         ensures { result ≡ bytes_at self.now space }
@@ -97,6 +98,20 @@ impl<'p, D: Store> Pool<'p, D> {
         self.copies.take(space, block)
     }
 
+    /// Makes the spare of a copy's versions at least so many runs. Nothing else changes.
+    ///
+    /// # Errors
+    /// Want of memory. The spare is no smaller than it was.
+    pub fn reserve(&mut self, space: u32, block: u32, runs: u64) -> Result<(), AllocError>
+        requires place { IsPlace self.old.plan.now space block }
+        requires there { IsSome (copy_at self.old space block) }
+        ensures kept { AreBoth (λ c d. HasMoreSpare c d × HasCopy self.old self.new space block (Some d))
+            (copy_at self.old space block) (copy_at self.new space block) }
+        ensures ok { OnOk result (IsSomeAnd (copy_at self.new space block) (λ c. runs ≤ c.versions.spare)) }
+    {
+        self.copies.reserve(space, block, runs)
+    }
+
     /// Some places of a copy take what another copy of the block has. All other copies stay. It takes no memory.
     pub fn take_places(&mut self, space: u32, block: u32, other: &Stamped<'p>, places: &Runs)
         requires place { IsPlace self.old.plan.now space block }
@@ -118,6 +133,18 @@ impl<'p, D: Store> Pool<'p, D> {
             (copy_at self.old space block) (copy_at self.old from block) (copy_at self.new space block) }
     {
         self.copies.move_places(space, block, from, places);
+    }
+
+    /// The elements of a copy's block that a task writes take what it made, with its number for their version. All other copies
+    /// stay. It takes no memory.
+    pub fn store_outputs(&mut self, space: u32, block: u32, work: &Work<'p>)
+        requires well { IsWellFormed self.old.plan.now }
+        requires place { IsPlace self.old.plan.now space block }
+        requires there { IsSomeAnd (copy_at self.old space block) (λ c. MayStore c work.now) }
+        ensures stored { AreBoth (λ c d. Stores c work.now d × HasCopy self.old self.new space block (Some d))
+            (copy_at self.old space block) (copy_at self.new space block) }
+    {
+        self.copies.store_outputs(space, block, work);
     }
 
     /// Puts a slot beside the copies, for a block of which the space has neither a copy nor a slot.
@@ -151,6 +178,14 @@ impl<'p, D: Store> Pool<'p, D> {
         ensures left { HasOut self.old self.new space block None }
     {
         self.outs.take(place_of(self.plan, space, block))
+    }
+
+    /// How many names an array has. It takes no memory.
+    pub fn names(&self, array: u32) -> u32
+        requires { IsNumberIn self.now.plan.now.arrays array }
+        ensures { result ≡ names_of self.now array }
+    {
+        self.names[array as usize - 1]
     }
 
     /// Gives an array a name. It takes no memory.

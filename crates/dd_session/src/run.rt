@@ -12,13 +12,11 @@ ghost use Rattle.dd_session.specs.Outcomes.{EndsWith, TellsFaults};
 use crate::reporting::report;
 use crate::status::{Outcome, Status};
 use crate::words::CommandWords;
+use dd_blocks::limits::TEXT_LIMIT;
 use dd_check::{AcceptFault, Fault, Kind, accept};
 use dd_io::{ReadEnd, Sink, Source, read_all};
 use dd_plain::{PlainFault, run_plain};
 use std::alloc::Global;
-
-/// The most bytes that a script may have.
-const BYTE_LIMIT: usize = 1_048_576;
 
 /// Reads a script and runs it.
 fn run<S: Source, O: Sink>(alloc: Global, src: &mut S, out: &mut O) -> Status
@@ -27,7 +25,7 @@ fn run<S: Source, O: Sink>(alloc: Global, src: &mut S, out: &mut O) -> Status
     ensures unread { result ≡ Status.ReadFault → out.new ≡ out.old }
     ensures faults { TellsFaults result (S.faults src.old) (S.faults src.new) (O.faults out.old) (O.faults out.new) }
 {
-    let text = match read_all(alloc, src, BYTE_LIMIT) {
+    let text = match read_all(alloc, src, TEXT_LIMIT as usize) {
         Ok(text) => text,
         Err(ReadEnd::TooLong) => return Status::Script(too_long()),
         Err(ReadEnd::ReadFault) => return Status::ReadFault,
@@ -52,7 +50,7 @@ fn too_long() -> Fault
     Fault {
         line: 0,
         kind: Kind::TooLong,
-        a: BYTE_LIMIT as u64,
+        a: TEXT_LIMIT,
         b: 0,
     }
 }

@@ -1,16 +1,15 @@
 -- True cells stay true.
 use Rattle.std.specs.List.{range_with_len}
-use Rattle.std.proofs.lemmas.List.{get_or-map, get_or-replicate}
+use Rattle.std.proofs.lemmas.List.{get_or-replicate}
 use Rattle.std.proofs.lemmas.List.FromFn.{get_or-map-range_with_len}
-use Rattle.dd_blocks.specs.declared.array_row.ArrayRow.{ArrayRow}
 use Rattle.dd_blocks.specs.Grids.{block_size, element_count, pos_of}
 use Rattle.dd_blocks.specs.Numbered.{array_row, block_row}
 use Rattle.dd_meaning.proofs.ValuesLemmas.{first_value}
 use Rattle.dd_blocks.proofs.GridLemmas.{pos_within}
-use Rattle.dd_meaning.specs.Worlds.{filled, filled_at}
+use Rattle.dd_meaning.specs.Worlds.{filled_at}
 use Rattle.dd_blocks.specs.PlanElements.{block_in_grid, grid_of}
 use Rattle.dd_blocks.proofs.LayoutLemmas.{StandsIn}
-use Rattle.std.proofs.Common.{zero, suc, [], map, get_or, replicate, ◌≡◌, ◌≢◌, ℕ, ◌<◌, ℤ, pos, Bool, true, false, ◌&&◌, List, length, refl, sym, ap, ◌∙◌, subst, arith, ⊎_elim}
+use Rattle.std.proofs.Common.{map, get_or, replicate, ◌≡◌, ◌≢◌, ℕ, ◌<◌, ℤ, pos, Bool, true, false, ◌&&◌, List, refl, sym, ap, ◌∙◌, subst, arith, ⊎_elim}
 use Rattle.std.specs.Prelude.{slice_index, Contains}
 use Rattle.std.proofs.lemmas.Bool.{cases_Bool}
 use Rattle.dd_kernels.specs.Lists.{element}

@@ -1,13 +1,12 @@
 -- Columns of a view over the array's columns.
-use Rattle.std.proofs.Common.{◌≡◌, ◌≢◌, ℕ, ◌+◌, ◌-◌, ◌*◌, ◌/◌, ◌%◌, ◌^◌, ◌<◌, ◌≤◌, ◌⊎◌, ℤ, pos, negsuc, List, ◌++◌, length, map, get_or, refl, sym, ap, ◌∙◌, subst, arith, unsigned_abs, ◌≤ℤ◌, ⊎_elim}
-use Rattle.std.specs.List.{Contains, range_with_len}
+use Rattle.std.proofs.Common.{◌≡◌, ◌≢◌, ℕ, ◌+◌, ◌-◌, ◌*◌, ◌/◌, ◌^◌, ◌<◌, ◌≤◌, ℤ, pos, negsuc, List, ◌++◌, length, get_or, sym, ap, ◌∙◌, subst, arith, unsigned_abs, ◌≤ℤ◌, ⊎_elim}
+use Rattle.std.specs.List.{Contains}
 use Rattle.std.proofs.lemmas.Bool.{cases_lt}
 use Rattle.std.proofs.lemmas.Int.{ints}
 use Rattle.std.proofs.lemmas.List.{get_or-append-add, get_or_append_left, length-append}
 use Rattle.std.proofs.lemmas.List.Elements.{Contains-append_left, Contains-append_right, Contains-get_or}
 use Rattle.std.proofs.lemmas.List.FromFn.{get_or-map-range_with_len}
 use Rattle.dd_views.specs.declared.column.Column.{Column}
-use Rattle.dd_views.specs.declared.shape.Shape.{Shape}
 use Rattle.dd_views.specs.declared.view.View.{View}
 use Rattle.dd_views.specs.IndexList.{column_list, columns_before, columns_from, index_list, keeps, kept_rows, number_at_place, places, position}
 use Rattle.dd_views.specs.Positions.{position_in, positions_in, stepped}
@@ -19,7 +18,7 @@ use Rattle.dd_views.proofs.PositionsLemmas.{length_positions}
 use Rattle.dd_views.proofs.SignedLemmas.{times_none}
 use Rattle.dd_views.proofs.WalkLemmas.{column_done, index_list_at}
 use Rattle.dd_blocks.specs.declared.grid.Grid.{Grid}
-use Rattle.dd_blocks.specs.Grids.{IsGrid, col_of, element_count}
+use Rattle.dd_blocks.specs.Grids.{IsGrid, element_count}
 use Rattle.std.specs.Int.{w64, cast_unsigned}
 use Rattle.std.specs.Int.RustNames.{FitsSigned}
 use Rattle.dd_stamps.specs.declared.piece.Piece.{Piece}
@@ -68,12 +67,12 @@ column_in g v j c grid view lt value step none whole inside =
       whole = whole;
       inside = inside;
       beside = λ i less.
-      let here = col_in v j (position_in c i) is lt (position_contained v j i c value less) in
-      let there = col_in v j (position_in c 0) is lt (position_contained v j 0 c value (omega (arith, less))) in
-      let rows : v.height ≡ g.rows = view.height in
-      let both : position_in c i / v.height ≡ position_in c 0 / v.height = omega (arith, here, there) in
-      let both' : position_in c i / g.rows ≡ position_in c 0 / g.rows = rw rows at both in
-      both' ∙ ap (λ (p : ℕ). p / g.rows) (first_is c);
+          let here = col_in v j (position_in c i) is lt (position_contained v j i c value less) in
+          let there = col_in v j (position_in c 0) is lt (position_contained v j 0 c value (omega (arith, less))) in
+          let rows : v.height ≡ g.rows = view.height in
+          let both : position_in c i / v.height ≡ position_in c 0 / v.height = omega (arith, here, there) in
+          let both' : position_in c i / g.rows ≡ position_in c 0 / g.rows = rw rows at both in
+          both' ∙ ap (λ (p : ℕ). p / g.rows) (first_is c);
     }
 
 -- where the elements of a column stand in the view's list
@@ -92,7 +91,7 @@ pub column_among : (v : View) (j i : ℕ) (c : Column) → j < v.cols.count → 
 column_among v j i c lt value less =
     subst (λ (xs : List ℕ). Contains xs (position_in c i)) (sym (index_list_at v j lt))
     (Contains-append_left (columns_before v j ++ column_list v (j + 1)) (columns_from v (j + 1)) (position_in c i)
-      (Contains-append_right (columns_before v j) (column_list v (j + 1)) (position_in c i) (position_contained v j i c value less)))
+    (Contains-append_right (columns_before v j) (column_list v (j + 1)) (position_in c i) (position_contained v j i c value less)))
 
 -- no two positions of a column are the same
 pub column_apart : (v : View) (j : ℕ) (c : Column) (i k : ℕ) → IsView v → j < v.cols.count → positions_in c ≡ column_list v (j + 1) → i < k → k < c.count → position_in c i ≢ position_in c k

@@ -1,5 +1,5 @@
 -- One column more.
-use Rattle.std.proofs.Common.{◌≡◌, ◌≢◌, ℕ, ◌+◌, ◌-◌, ◌<◌, ◌≤◌, ℤ, pos, Bool, true, false, cond, inl, inr, List, get_or, refl, sym, ap, ◌∙◌, arith, ⊎_elim}
+use Rattle.std.proofs.Common.{◌≡◌, ℕ, ◌+◌, ◌-◌, ◌<◌, ◌≤◌, ℤ, pos, Bool, true, false, cond, inl, inr, List, get_or, refl, sym, ap, ◌∙◌, arith, ⊎_elim}
 use Rattle.std.specs.Prelude.{nat_eq}
 use Rattle.std.proofs.lemmas.Bool.{cases_Bool, cases_lt}
 use Rattle.std.proofs.lemmas.Bool.Decides.{eqb_tells}
@@ -20,18 +20,18 @@ pub column_gathered : (f : ℕ → Bool) (v : ℕ → ℤ) (at count from end : 
     → IsGathering f v (at + count) old new
 column_gathered f v at count from end given old mid new so_far placed few others is = record {
   done = λ k lt. ⊎_elim
-  (λ (low : k < at). placed.others k (λ i above less e. absurd (omega (arith, e, low))) ∙ so_far.done k low)
-  (λ (high : at ≤ k).
-    let e : at + (k - at) ≡ k = omega arith in
-    let less : k - at < count = omega arith in
-    ⊎_elim
-    (λ (yes : f k ≡ true).
+      (λ (low : k < at). placed.others k (λ i above less e. absurd (omega (arith, e, low))) ∙ so_far.done k low)
+      (λ (high : at ≤ k).
+      let e : at + (k - at) ≡ k = omega arith in
+      let less : k - at < count = omega arith in
+      ⊎_elim
+      (λ (yes : f k ≡ true).
       let there = others (k - at) less (ap f e ∙ yes) in
       rw yes (sym (ap (λ (n : ℕ). get_or new n (pos 0)) e) ∙ placed.placed (k - at) there.0 there.1 ∙ (is (k - at) there.0 there.1).1 ∙ ap v e))
-    (λ (no : f k ≡ false).
+      (λ (no : f k ≡ false).
       rw no (placed.others k (λ i above lt_end same. let clash : true ≡ false = sym (is i above lt_end).0 ∙ ap f same ∙ no in absurd (cc)) ∙ so_far.left k high))
-    (cases_Bool (f k)))
-  (cases_lt k at);
+      (cases_Bool (f k)))
+      (cases_lt k at);
   left = λ k le. placed.others k (λ i above less e. absurd (omega (arith, e, le, less, few))) ∙ so_far.left k (omega arith);
 }
 

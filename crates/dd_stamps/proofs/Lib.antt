@@ -8,3 +8,7 @@ pub mod PlacedLemmas
 pub mod GatheredLemmas
 pub mod StampsLemmas
 pub mod PutLemmas
+pub mod InBlocksLemmas
+pub mod OutputsLemmas
+pub mod FoundLemmas
+pub mod BlockOutputsLemmas

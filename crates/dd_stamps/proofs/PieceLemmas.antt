@@ -6,11 +6,11 @@ use Rattle.dd_kernels.proofs.ListsLemmas.{ap2}
 use Rattle.dd_views.specs.declared.column.Column.{Column}
 use Rattle.dd_views.specs.Positions.{position_in}
 use Rattle.dd_blocks.specs.declared.grid.Grid.{Grid}
-use Rattle.dd_blocks.specs.Grids.{IsGrid, block_count, block_height, block_of, block_rows, block_size, col_of, col_of_block, element_count, piece_len, place_in_block, pos_of, row_of, row_of_block}
+use Rattle.dd_blocks.specs.Grids.{IsGrid, block_count, block_height, block_of, block_rows, block_size, col_of, col_of_block, element_count, place_in_block, pos_of, row_of, row_of_block}
 use Rattle.dd_blocks.proofs.GridLemmas.{begins_row, in_block, position_back}
 use Rattle.dd_blocks.proofs.PiecesLemmas.{number_piece, number_place, piece_within}
 use Rattle.dd_stamps.specs.declared.piece.Piece.{Piece}
-use Rattle.dd_stamps.specs.Columns.{HasPlaces, IsColumnIn, IsPieceOf, place_at, place_in}
+use Rattle.dd_stamps.specs.Columns.{HasPlaces, IsColumnIn, IsPieceOf, place_in}
 
 -- a position of an array's column, between where a block begins and ends in it
 pub record IsWithin (g : Grid) (block col low high p : ℕ) : Type 0 where
@@ -98,8 +98,8 @@ piece_within_column g block col low high c p grid few column first block_col low
       low_is = λ i from lt. omega (arith, p_low, (inside i from lt).0);
       place_is = λ i from lt. within_place g block col low high (position_in c i) grid (is i from lt) ∙ place_same (col % g.bcols * block_height g block) low (position_in c i) p p_place p_low;
       others = λ i lt there.
-      let within = block_within_column g block col low high (position_in c i) grid (column.inside i lt) (column.beside i lt ∙ first) there low_is high_is in
-      others i lt within.above within.below;
+          let within = block_within_column g block col low high (position_in c i) grid (column.inside i lt) (column.beside i lt ∙ first) there low_is high_is in
+          others i lt within.above within.below;
     }
 
 -- the column has nothing in the block
@@ -112,7 +112,7 @@ piece_beside g block col c p grid column first other from end = record {
   low_is = λ i low lt. absurd (omega (arith, lt, end));
   place_is = λ i low lt. absurd (omega (arith, lt, end));
   others = λ i lt there.
-  absurd (other (block_within_column g block col _ _ (position_in c i) grid (column.inside i lt) (column.beside i lt ∙ first) there refl refl).block_col);
+      absurd (other (block_within_column g block col _ _ (position_in c i) grid (column.inside i lt) (column.beside i lt ∙ first) there refl refl).block_col);
 }
 
 -- what the code that walks a piece has to know of it
@@ -126,16 +126,16 @@ has_places g block c p size grid column piece size_is apart = record {
   inside = λ i lt. omega (arith, column.inside i lt, grid.few);
   low_is = piece.low_is;
   within = λ i from lt.
-  let less = in_block g (position_in c i) grid (column.inside i (omega (arith, lt, piece.few))) in
-  let same = ap (block_size g) (piece.here i from lt) in
-  omega (arith, less, same, size_is, piece.place_is i from lt);
+      let less = in_block g (position_in c i) grid (column.inside i (omega (arith, lt, piece.few))) in
+      let same = ap (block_size g) (piece.here i from lt) in
+      omega (arith, less, same, size_is, piece.place_is i from lt);
   apart = λ i k from less lt e.
-  let i_lt : i < p.end = omega (arith, less, lt) in
-  let k_from : p.from ≤ k = omega (arith, less, from) in
-  apart i k less (omega (arith, lt, piece.few))
-    (sym (position_back g (position_in c i) grid (column.inside i (omega (arith, i_lt, piece.few))))
-    ∙ same_place g (block_of g (position_in c i)) (block_of g (position_in c k)) (place_in g c i) (place_in g c k) (piece.here i from i_lt ∙ sym (piece.here k k_from lt)) (piece.place_is i from i_lt ∙ e ∙ sym (piece.place_is k k_from lt))
-    ∙ position_back g (position_in c k) grid (column.inside k (omega (arith, lt, piece.few))));
+      let i_lt : i < p.end = omega (arith, less, lt) in
+      let k_from : p.from ≤ k = omega (arith, less, from) in
+      apart i k less (omega (arith, lt, piece.few))
+      (sym (position_back g (position_in c i) grid (column.inside i (omega (arith, i_lt, piece.few))))
+      ∙ same_place g (block_of g (position_in c i)) (block_of g (position_in c k)) (place_in g c i) (place_in g c k) (piece.here i from i_lt ∙ sym (piece.here k k_from lt)) (piece.place_is i from i_lt ∙ e ∙ sym (piece.place_is k k_from lt))
+      ∙ position_back g (position_in c k) grid (column.inside k (omega (arith, lt, piece.few))));
 }
 
 -- a longer way has no fewer steps

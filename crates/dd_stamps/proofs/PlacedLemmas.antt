@@ -19,13 +19,14 @@ pub placed_more : {A : Type 0} (none : A) (from i : ℕ) (place : ℕ → ℕ) (
 placed_more none from i place given old mid new so_far low count here others apart = record {
   count = count ∙ so_far.count;
   placed = λ k above lt. elim (eqb_tells k i) [
-    inl e ↦ subst (λ (n : ℕ). get_or new (place n) none ≡ given n) (sym e.1) here
+    | inl e ↦ subst (λ (n : ℕ). get_or new (place n) none ≡ given n) (sym e.1) here
     | inr ne ↦
-      let other : k ≢ i = ne.1 in
-      let less : k < i = omega arith in
-      others (place k) (apart k above less) ∙ so_far.placed k above less ];
+        let other : k ≢ i = ne.1 in
+        let less : k < i = omega arith in
+        others (place k) (apart k above less) ∙ so_far.placed k above less
+  ];
   others = λ q none_is.
-  others q (λ e. none_is i low (omega arith) (sym e)) ∙ so_far.others q (λ k above lt. none_is k above (omega arith));
+      others q (λ e. none_is i low (omega arith) (sym e)) ∙ so_far.others q (λ k above lt. none_is k above (omega arith));
 }
 
 -- a copy of one value
@@ -33,13 +34,12 @@ pub one_copied : {A : Type 0} (none : A) (first at : ℕ) (other old new : List 
     → (get_or new at none ≡ get_or other first none) × ((q : ℕ) → q ≢ at → get_or new q none ≡ get_or old q none)
 one_copied none first at other old new copied =
     let here : at + 0 ≡ at = omega arith in
-    let there : first + 0 ≡ first = omega arith in
-    (
+    let there : first + 0 ≡ first = omega arith in (
       sym (ap (λ (n : ℕ). get_or new n none) here) ∙ copied.copied 0 (omega arith) ∙ ap (λ (n : ℕ). get_or other n none) there,
       λ q ne. ⊎_elim
-      (λ (low : q < at). copied.before q low)
-      (λ (high : at ≤ q). copied.behind q (let apart : q ≢ at = ne in omega arith))
-      (cases_lt q at),
+          (λ (low : q < at). copied.before q low)
+          (λ (high : at ≤ q). copied.behind q (let apart : q ≢ at = ne in omega arith))
+          (cases_lt q at),
     )
 
 -- a copy of places that follow each other
@@ -49,14 +49,14 @@ pub run_placed : {A : Type 0} (none : A) (from end first at : ℕ) (place : ℕ 
 run_placed none from end first at place given other old new copied order is = record {
   count = copied.count;
   placed = λ i low lt.
-  ap (λ (n : ℕ). get_or new n none) (is i low lt).0 ∙ copied.copied (i - from) (omega arith) ∙ sym (is i low lt).1;
+      ap (λ (n : ℕ). get_or new n none) (is i low lt).0 ∙ copied.copied (i - from) (omega arith) ∙ sym (is i low lt).1;
   others = λ q apart. ⊎_elim
-  (λ (low : q < at). copied.before q low)
-  (λ (high : at ≤ q). ⊎_elim
-    (λ (lt : q < at + (end - from)).
+      (λ (low : q < at). copied.before q low)
+      (λ (high : at ≤ q). ⊎_elim
+      (λ (lt : q < at + (end - from)).
       let e : at + (from + (q - at) - from) ≡ q = omega arith in
       absurd (apart (from + (q - at)) (omega arith) (omega arith) ((is (from + (q - at)) (omega arith) (omega arith)).0 ∙ e)))
-    (λ (behind : at + (end - from) ≤ q). copied.behind q behind)
-    (cases_lt q (at + (end - from))))
-  (cases_lt q at);
+      (λ (behind : at + (end - from) ≤ q). copied.behind q behind)
+      (cases_lt q (at + (end - from))))
+      (cases_lt q at);
 }

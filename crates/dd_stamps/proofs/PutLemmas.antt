@@ -1,7 +1,6 @@
 -- What a column of a view puts at the places of a block.
-use Rattle.std.proofs.Common.{◌≡◌, ◌≢◌, ℕ, zero, suc, ◌+◌, ◌-◌, ◌<◌, ◌≤◌, ℤ, pos, Bool, true, false, ◌||◌, cond, ◌⊎◌, inl, inr, List, [], ◌∷◌, ◌++◌, length, take, drop, get_or, refl, sym, ap, ◌∙◌, subst, arith, ⊎_elim, eq-eqb}
-use Rattle.std.specs.Prelude.{nat_eq, slice_index, Contains, AllPairs}
-use Rattle.std.specs.List.{list_any}
+use Rattle.std.proofs.Common.{◌≡◌, ◌≢◌, ℕ, zero, suc, ◌+◌, ◌<◌, ◌≤◌, ℤ, pos, Bool, true, false, ◌||◌, cond, ◌⊎◌, inl, inr, List, [], ◌∷◌, ◌++◌, length, take, drop, get_or, refl, sym, ap, ◌∙◌, arith, ⊎_elim, eq-eqb}
+use Rattle.std.specs.Prelude.{nat_eq, slice_index, Contains}
 use Rattle.std.proofs.lemmas.Bool.{cases_Bool}
 use Rattle.std.proofs.lemmas.Bool.Decides.{eqb_tells}
 use Rattle.std.proofs.lemmas.List.{drop-drop, get_or_default, get_or-drop, get_or-take, length-drop, length-take-le, take-append-drop}
@@ -22,7 +21,7 @@ use Rattle.dd_meaning.proofs.ValuesLemmas.{put_nothing}
 use Rattle.dd_spans.specs.Numbers.{is_among}
 use Rattle.dd_spans.proofs.MembersLemmas.{is_among_decides}
 use Rattle.dd_stamps.specs.declared.piece.Piece.{Piece}
-use Rattle.dd_stamps.specs.Columns.{IsColumnIn, IsPieceOf, place_at, place_in}
+use Rattle.dd_stamps.specs.Columns.{IsColumnIn, IsPieceOf, place_at}
 use Rattle.dd_stamps.specs.Placed.{HasPlaced}
 use Rattle.dd_stamps.proofs.ColumnsLemmas.{column_among, position_listed}
 
@@ -60,21 +59,24 @@ pub piece_cases : (g : Grid) (block : ℕ) (c : Column) (p : Piece) (q : ℕ) �
     → IsHit g c p (pos_of g block q) q ⊎ IsMiss c p (pos_of g block q) q
 piece_cases g block c p q grid few column piece lt = ⊎_elim
     (λ (yes : is_among (positions_in c) (pos_of g block q) ≡ true).
-      let there : Contains (positions_in c) (pos_of g block q) = (is_among_decides (positions_in c) (pos_of g block q)).0 yes in
-      let i : ℕ = there.0 in
-      let less : there.0 < c.count = omega (arith, there.1, length_positions c) in
-      let at : position_in c there.0 ≡ pos_of g block q = sym (position_listed c there.0 less) ∙ get_or_default (positions_in c) there.0 0 (pos_of g block q) there.1 ∙ there.2 in
-      let within = piece.others there.0 less (ap (block_of g) at ∙ block_back g block q grid few lt) in
-      inl (there.0, within.0, within.1, at, sym (piece.place_is there.0 within.0 within.1) ∙ ap (place_in_block g) at ∙ place_back g block q grid few lt))
+    let there : Contains (positions_in c) (pos_of g block q) = (is_among_decides (positions_in c) (pos_of g block q)).0 yes in
+    let i : ℕ = there.0 in
+    let less : there.0 < c.count = omega (arith, there.1, length_positions c) in
+    let at : position_in c there.0 ≡ pos_of g block q = sym (position_listed c there.0 less) ∙ get_or_default (positions_in c) there.0 0 (pos_of g block q) there.1 ∙ there.2 in
+    let within = piece.others there.0 less (ap (block_of g) at ∙ block_back g block q grid few lt) in
+    inl (there.0, within.0, within.1, at, sym (piece.place_is there.0 within.0 within.1) ∙ ap (place_in_block g) at ∙ place_back g block q grid few lt))
     (λ (no : is_among (positions_in c) (pos_of g block q) ≡ false).
-      inr (no, λ i from less e.
-        let i_less : i < c.count = omega (arith, less, piece.few) in
-        let at : position_in c i ≡ pos_of g block q =
-        sym (position_back g (position_in c i) grid (column.inside i i_less)) ∙ ap2 (pos_of g) (piece.here i from less) (piece.place_is i from less ∙ e) in
-        let listed : get_or (positions_in c) i 0 ≡ pos_of g block q = position_listed c i i_less ∙ at in
-        let is : Contains (positions_in c) (pos_of g block q) = (i, omega (arith, i_less, length_positions c), get_or_default (positions_in c) i (pos_of g block q) 0 (omega (arith, i_less, length_positions c)) ∙ listed) in
-        let clash : true ≡ false = sym ((is_among_decides (positions_in c) (pos_of g block q)).1 is) ∙ no in
-        absurd (cc)))
+    inr (
+      no,
+      λ i from less e.
+          let i_less : i < c.count = omega (arith, less, piece.few) in
+          let at : position_in c i ≡ pos_of g block q =
+          sym (position_back g (position_in c i) grid (column.inside i i_less)) ∙ ap2 (pos_of g) (piece.here i from less) (piece.place_is i from less ∙ e) in
+          let listed : get_or (positions_in c) i 0 ≡ pos_of g block q = position_listed c i i_less ∙ at in
+          let is : Contains (positions_in c) (pos_of g block q) = (i, omega (arith, i_less, length_positions c), get_or_default (positions_in c) i (pos_of g block q) 0 (omega (arith, i_less, length_positions c)) ∙ listed) in
+          let clash : true ≡ false = sym ((is_among_decides (positions_in c) (pos_of g block q)).1 is) ∙ no in
+          absurd (cc),
+    ))
     (cases_Bool (is_among (positions_in c) (pos_of g block q)))
 
 -- what the column leaves at a place of the block
@@ -82,25 +84,27 @@ pub column_put : (g : Grid) (block : ℕ) (v : View) (j : ℕ) (c : Column) (p :
     → ((i k : ℕ) → i < k → k < c.count → position_in c i ≢ position_in c k) → length vs ≡ c.count → q < block_size g block
     → HasPlaced (pos 0) p.from p.end (place_at c p) (element vs) old new → element new q ≡ put_value (positions_in c) vs (pos_of g block q) (element old q)
 column_put g block v j c p vs old new q grid few column piece apart long lt placed = elim (piece_cases g block c p q grid few column piece lt) [
-  inl hit ↦
-    let less : hit.0 < c.count = omega (arith, hit.2, piece.few) in
-    let listed : (k : ℕ) → k < c.count → get_or (positions_in c) k 0 ≡ position_in c k = λ k le. position_listed c k le in
-    ap (element new) (sym hit.4)
-    ∙ placed.placed hit.0 hit.1 hit.2
-    ∙ sym (put_hit (positions_in c) vs hit.0 (element old q) (length_positions c ∙ sym long) (omega (arith, less, length_positions c))
+  | inl hit ↦
+      let less : hit.0 < c.count = omega (arith, hit.2, piece.few) in
+      let listed : (k : ℕ) → k < c.count → get_or (positions_in c) k 0 ≡ position_in c k = λ k le. position_listed c k le in
+      ap (element new) (sym hit.4)
+      ∙ placed.placed hit.0 hit.1 hit.2
+      ∙ sym (put_hit (positions_in c) vs hit.0 (element old q) (length_positions c ∙ sym long) (omega (arith, less, length_positions c))
       (λ k above le e. let k_less : k < c.count = omega (arith, le, length_positions c) in apart hit.0 k above k_less (sym (listed hit.0 less) ∙ sym e ∙ listed k k_less)))
-    ∙ ap (λ (n : ℕ). put_value (positions_in c) vs n (element old q)) (listed hit.0 less ∙ hit.3)
-  | inr miss ↦ placed.others q miss.1 ∙ sym (put_nothing (positions_in c) vs (pos_of g block q) (element old q) miss.0) ]
+      ∙ ap (λ (n : ℕ). put_value (positions_in c) vs n (element old q)) (listed hit.0 less ∙ hit.3)
+  | inr miss ↦ placed.others q miss.1 ∙ sym (put_nothing (positions_in c) vs (pos_of g block q) (element old q) miss.0)
+]
 
 pub column_stamped : (g : Grid) (block : ℕ) (c : Column) (p : Piece) (task : ℕ) (old new : List ℕ) (q : ℕ) → IsGrid g → block < block_count g → IsColumnIn g c → IsPieceOf g block c p
     → q < block_size g block → HasPlaced 0 p.from p.end (place_at c p) (λ _. task) old new → slice_index new q ≡ cond (is_among (positions_in c) (pos_of g block q)) task (slice_index old q)
 column_stamped g block c p task old new q grid few column piece lt placed = elim (piece_cases g block c p q grid few column piece lt) [
-  inl hit ↦
-    let less : hit.0 < c.count = omega (arith, hit.2, piece.few) in
-    let is : Contains (positions_in c) (pos_of g block q) = (hit.0, omega (arith, less, length_positions c), get_or_default (positions_in c) hit.0 (pos_of g block q) 0 (omega (arith, less, length_positions c)) ∙ position_listed c hit.0 less ∙ hit.3) in
-    let yes : is_among (positions_in c) (pos_of g block q) ≡ true = (is_among_decides (positions_in c) (pos_of g block q)).1 is in
-    rw yes (ap (slice_index new) (sym hit.4) ∙ placed.placed hit.0 hit.1 hit.2)
-  | inr miss ↦ let no = miss.0 in rw no (placed.others q miss.1) ]
+  | inl hit ↦
+      let less : hit.0 < c.count = omega (arith, hit.2, piece.few) in
+      let is : Contains (positions_in c) (pos_of g block q) = (hit.0, omega (arith, less, length_positions c), get_or_default (positions_in c) hit.0 (pos_of g block q) 0 (omega (arith, less, length_positions c)) ∙ position_listed c hit.0 less ∙ hit.3) in
+      let yes : is_among (positions_in c) (pos_of g block q) ≡ true = (is_among_decides (positions_in c) (pos_of g block q)).1 is in
+      rw yes (ap (slice_index new) (sym hit.4) ∙ placed.placed hit.0 hit.1 hit.2)
+  | inr miss ↦ let no = miss.0 in rw no (placed.others q miss.1)
+]
 
 -- one column less that is left
 pub put_left : (v : View) (j : ℕ) (c : Column) (at : ℕ) (from : List ℤ) (p : ℕ) (b : ℤ) → j < v.cols.count → positions_in c ≡ column_list v (j + 1) → at + c.count ≤ length from
@@ -132,7 +136,7 @@ pub placed_behind : (c : Column) (p : Piece) (at : ℕ) (from old new : List ℤ
 placed_behind c p at from old new room few placed = record {
   count = placed.count;
   placed = λ i low lt.
-  placed.placed i low lt ∙ sym (get_or-take c.count (drop at from) i (pos 0) (omega (arith, lt, few)) ∙ get_or-drop at from i (pos 0));
+      placed.placed i low lt ∙ sym (get_or-take c.count (drop at from) i (pos 0) (omega (arith, lt, few)) ∙ get_or-drop at from i (pos 0));
   others = placed.others;
 }
 

@@ -1,7 +1,7 @@
 -- Each stamp leaves one place less to stamp.
-use Rattle.std.proofs.Common.{◌≡◌, ◌≢◌, ℕ, zero, suc, ◌+◌, ◌-◌, ◌*◌, ◌<◌, ◌≤◌, Bool, true, false, ◌&&◌, not, inl, inr, List, length, refl, sym, ap, ◌∙◌, arith, ⊎_elim}
-use Rattle.std.specs.Prelude.{nat_eq, nat_le, nat_lt, if◌then◌else◌, slice_index}
-use Rattle.std.proofs.lemmas.Bool.{cases_Bool, cases_lt}
+use Rattle.std.proofs.Common.{◌≡◌, ◌≢◌, ℕ, zero, suc, ◌+◌, ◌-◌, ◌<◌, ◌≤◌, Bool, true, false, ◌&&◌, inl, inr, List, length, refl, sym, ap, ◌∙◌, arith, ⊎_elim}
+use Rattle.std.specs.Prelude.{nat_le, nat_lt, if◌then◌else◌, slice_index}
+use Rattle.std.proofs.lemmas.Bool.{cases_lt}
 use Rattle.std.proofs.lemmas.Bool.Decides.{eqb_tells, nat_tests}
 use Rattle.dd_spans.specs.PlaceMap.{PlaceMap}
 use Rattle.dd_stamps.specs.Placed.{HasPlaced}
@@ -21,14 +21,15 @@ count_le f g (suc n) less = omega (arith, one_le (f n) (g n) (less n), count_le 
 pub count_less : (f g : ℕ → Bool) (n place : ℕ) → ((p : ℕ) → f p ≡ true → g p ≡ true) → place < n → g place ≡ true → f place ≡ false → count_below f n + 1 ≤ count_below g n
 count_less f g zero place less lt was is = absurd (omega arith)
 count_less f g (suc n) place less lt was is = elim (eqb_tells n place) [
-  inl e ↦
-    let one : one_if (g n) ≡ 1 = ap one_if (ap g e.1 ∙ was) in
-    let none : one_if (f n) ≡ 0 = ap one_if (ap f e.1 ∙ is) in
-    omega (arith, one, none, count_le f g n less)
+  | inl e ↦
+      let one : one_if (g n) ≡ 1 = ap one_if (ap g e.1 ∙ was) in
+      let none : one_if (f n) ≡ 0 = ap one_if (ap f e.1 ∙ is) in
+      omega (arith, one, none, count_le f g n less)
   | inr ne ↦
-    let apart : n ≢ place = ne.1 in
-    let below : place < n = omega arith in
-    omega (arith, one_le (f n) (g n) (less n), count_less f g n place less below was is) ]
+      let apart : n ≢ place = ne.1 in
+      let below : place < n = omega arith in
+      omega (arith, one_le (f n) (g n) (less n), count_less f g n place less below was is)
+]
 
 pub count_some : (g : ℕ → Bool) (n place : ℕ) → place < n → g place ≡ true → 1 ≤ count_below g n
 count_some g n place lt was = omega (arith, count_less (λ _. false) g n place (λ p e. absurd (let clash : false ≡ true = e in cc)) lt was refl)
@@ -36,8 +37,9 @@ count_some g n place lt was = omega (arith, count_less (λ _. false) g n place (
 -- a place that is to be written and has another version
 pub was_pending : (written : ℕ → Bool) (task : ℕ) (versions : List ℕ) (place : ℕ) → written place ≡ true → slice_index versions place ≢ task → is_pending written task versions place ≡ true
 was_pending written task versions place is_to_be other = elim (eqb_tells (slice_index versions place) task) [
-  inl h ↦ absurd (other h.1)
-  | inr h ↦ rw (is_to_be, h.0) refl ]
+  | inl h ↦ absurd (other h.1)
+  | inr h ↦ rw (is_to_be, h.0) refl
+]
 
 and_false : (b : Bool) → (b && false) ≡ false
 and_false true = refl
@@ -45,8 +47,9 @@ and_false false = refl
 
 not_pending : (written : ℕ → Bool) (task : ℕ) (versions : List ℕ) (place : ℕ) → slice_index versions place ≡ task → is_pending written task versions place ≡ false
 not_pending written task versions place same = elim (eqb_tells (slice_index versions place) task) [
-  inl h ↦ rw h.0 (and_false (written place))
-  | inr h ↦ absurd (h.1 same) ]
+  | inl h ↦ rw h.0 (and_false (written place))
+  | inr h ↦ absurd (h.1 same)
+]
 
 -- a run of places in a list
 pub run_in : (first end p : ℕ) (x y : ℕ) → first ≤ p → p < end → (if nat_le first p && nat_lt p end then x else y) ≡ x
@@ -64,12 +67,12 @@ module _ (written : ℕ → Bool) (task first end : ℕ) (old new : List ℕ) wh
   pending_le set p now = ⊎_elim
       (λ (low : p < first). let same : slice_index new p ≡ slice_index old p = set p ∙ run_below first end p task (slice_index old p) low in rw (sym same) now)
       (λ (high : first ≤ p). ⊎_elim
-        (λ (lt : p < end).
-          let here : slice_index new p ≡ task = set p ∙ run_in first end p task (slice_index old p) high lt in
-          let no = not_pending written task new p here in
-          absurd (let clash : true ≡ false = sym now ∙ no in cc))
-        (λ (le : end ≤ p). let same : slice_index new p ≡ slice_index old p = set p ∙ run_above first end p task (slice_index old p) le in rw (sym same) now)
-        (cases_lt p end))
+      (λ (lt : p < end).
+      let here : slice_index new p ≡ task = set p ∙ run_in first end p task (slice_index old p) high lt in
+      let no = not_pending written task new p here in
+      absurd (let clash : true ≡ false = sym now ∙ no in cc))
+      (λ (le : end ≤ p). let same : slice_index new p ≡ slice_index old p = set p ∙ run_above first end p task (slice_index old p) le in rw (sym same) now)
+      (cases_lt p end))
       (cases_lt p first)
 
   -- and one of them was pending before
@@ -100,9 +103,9 @@ pub one_stamped : (place task : ℕ) (old new : List ℕ) → ((p : ℕ) → sli
 one_stamped place task old new set = (
   set place ∙ run_in place (place + 1) place task (slice_index old place) (omega arith) (omega arith),
   λ q ne. ⊎_elim
-  (λ (low : q < place). set q ∙ run_below place (place + 1) q task (slice_index old q) low)
-  (λ (high : place ≤ q). set q ∙ run_above place (place + 1) q task (slice_index old q) (let apart : q ≢ place = ne in omega arith))
-  (cases_lt q place),
+      (λ (low : q < place). set q ∙ run_below place (place + 1) q task (slice_index old q) low)
+      (λ (high : place ≤ q). set q ∙ run_above place (place + 1) q task (slice_index old q) (let apart : q ≢ place = ne in omega arith))
+      (cases_lt q place),
 )
 
 -- places that follow each other were
@@ -113,12 +116,12 @@ run_stamped from end first task place old new count order set is = record {
   count = count;
   placed = λ i low lt. let here = is i low lt in set (place i) ∙ run_in first (first + (end - from)) (place i) task (slice_index old (place i)) (omega (arith, here)) (omega (arith, here, low, lt));
   others = λ q apart. ⊎_elim
-  (λ (low : q < first). set q ∙ run_below first (first + (end - from)) q task (slice_index old q) low)
-  (λ (high : first ≤ q). ⊎_elim
-    (λ (lt : q < first + (end - from)).
+      (λ (low : q < first). set q ∙ run_below first (first + (end - from)) q task (slice_index old q) low)
+      (λ (high : first ≤ q). ⊎_elim
+      (λ (lt : q < first + (end - from)).
       let e : first + (from + (q - first) - from) ≡ q = omega arith in
       absurd (apart (from + (q - first)) (omega arith) (omega arith) (is (from + (q - first)) (omega arith) (omega arith) ∙ e)))
-    (λ (behind : first + (end - from) ≤ q). set q ∙ run_above first (first + (end - from)) q task (slice_index old q) behind)
-    (cases_lt q (first + (end - from))))
-  (cases_lt q first);
+      (λ (behind : first + (end - from) ≤ q). set q ∙ run_above first (first + (end - from)) q task (slice_index old q) behind)
+      (cases_lt q (first + (end - from))))
+      (cases_lt q first);
 }

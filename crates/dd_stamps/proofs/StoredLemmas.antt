@@ -1,24 +1,19 @@
 -- What a task stores makes true cells.
-use Rattle.std.proofs.Common.{◌≡◌, ◌≢◌, ℕ, zero, suc, ◌+◌, ◌-◌, ◌<◌, ◌≤◌, ℤ, pos, Bool, true, false, ◌&&◌, ◌||◌, cond, List, [], ◌∷◌, length, get_or, refl, sym, ap, ◌∙◌, subst, arith, ⊎_elim}
-use Rattle.std.specs.Prelude.{nat_eq, slice_index}
-use Rattle.std.specs.List.{list_any}
+use Rattle.std.proofs.Common.{◌≡◌, ℕ, suc, ◌-◌, ◌<◌, ◌≤◌, ℤ, true, false, cond, List, length, sym, ap, ◌∙◌, arith, ⊎_elim}
+use Rattle.std.specs.Prelude.{slice_index}
 use Rattle.std.proofs.lemmas.Bool.{cases_Bool}
 use Rattle.dd_kernels.specs.Lists.{element}
-use Rattle.dd_views.specs.IndexList.{index_list}
-use Rattle.dd_blocks.specs.declared.access_row.AccessRow.{AccessRow}
 use Rattle.dd_blocks.specs.declared.plan.Plan.{Plan}
-use Rattle.dd_blocks.specs.declared.task_row.TaskRow.{TaskRow}
-use Rattle.dd_blocks.specs.Elements.{writes}
 use Rattle.dd_blocks.specs.Numbered.{task_row}
 use Rattle.dd_meaning.specs.Steps.{computed, world_after}
-use Rattle.dd_blocks.specs.Elements.{Element, has, task_reads, task_writes}
+use Rattle.dd_blocks.specs.Elements.{Element, task_writes}
 use Rattle.dd_meaning.specs.Versions.{needed_version}
 use Rattle.dd_meaning.specs.Worlds.{filled_world}
 use Rattle.dd_stamps.specs.Cells.{AreTrue, blank}
 use Rattle.dd_stamps.specs.Cells.{size_of}
 use Rattle.dd_meaning.specs.Values.{value_at}
 use Rattle.dd_blocks.specs.PlanElements.{element_of}
-use Rattle.dd_meaning.specs.Written.{HaveLengths, IsIn, put_value, value_stored, value_stored_one}
+use Rattle.dd_meaning.specs.Written.{HaveLengths, IsIn, value_stored}
 use Rattle.dd_meaning.proofs.StoredLemmas.{stored_any}
 use Rattle.dd_meaning.proofs.ValuesLemmas.{NamesArrays, stored_nothing, value_of_version, value_written}
 
@@ -34,18 +29,18 @@ stored_true plan n block lists vs ws xs ys named lt in_world are long values ver
     let e : Element = element_of plan block place in
     ⊎_elim
     (λ (w : task_writes (task_row plan (suc n)) e ≡ true).
-      let version : slice_index ws place ≡ suc n = rw w at (versions place within) in
-      values place within
-      ∙ stored_any (task_row plan (suc n)).accesses lists e (element xs place) (value_at plan n e) long w
-      ∙ ap (λ (l : List (List ℤ)). value_stored (task_row plan (suc n)).accesses l e (value_at plan n e)) are
-      ∙ sym (value_written plan e n named (in_world place within) lt)
-      ∙ sym (ap (λ (v : ℕ). value_at plan v e) version))
+    let version : slice_index ws place ≡ suc n = rw w at (versions place within) in
+    values place within
+    ∙ stored_any (task_row plan (suc n)).accesses lists e (element xs place) (value_at plan n e) long w
+    ∙ ap (λ (l : List (List ℤ)). value_stored (task_row plan (suc n)).accesses l e (value_at plan n e)) are
+    ∙ sym (value_written plan e n named (in_world place within) lt)
+    ∙ sym (ap (λ (v : ℕ). value_at plan v e) version))
     (λ (o : task_writes (task_row plan (suc n)) e ≡ false).
-      let version : slice_index ws place ≡ slice_index vs place = rw o at (versions place within) in
-      values place within
-      ∙ stored_nothing (task_row plan (suc n)).accesses lists e (element xs place) o
-      ∙ cells place within (λ b. there (version ∙ b))
-      ∙ sym (ap (λ (v : ℕ). value_at plan v e) version))
+    let version : slice_index ws place ≡ slice_index vs place = rw o at (versions place within) in
+    values place within
+    ∙ stored_nothing (task_row plan (suc n)).accesses lists e (element xs place) o
+    ∙ cells place within (λ b. there (version ∙ b))
+    ∙ sym (ap (λ (v : ℕ). value_at plan v e) version))
     (cases_Bool (task_writes (task_row plan (suc n)) e))
 
 -- a true cell with the version that a task needs has the value that the task finds

@@ -1,5 +1,5 @@
 -- True cells: a value that has a version is that of its element after the task with the version's number.
-use Rattle.std.specs.Prelude.{◌≡◌, ◌≢◌, ℕ, ◌<◌, ℤ, List, length, slice_index}
+use Rattle.std.specs.Prelude.{◌≡◌, ◌≢◌, ℕ, ◌<◌, ℤ, List, slice_index}
 use Rattle.std.specs.Coded.{Coded-set, coded_ℤ, Π_prop, →_prop}
 use Rattle.dd_kernels.specs.Lists.{element}
 use Rattle.dd_blocks.specs.declared.plan.Plan.{Plan}

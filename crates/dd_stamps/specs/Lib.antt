@@ -1,8 +1,11 @@
 pub mod Cells
 pub mod Taken
+pub mod Stamps
 pub mod Copies
 pub mod Columns
 pub mod Placed
 pub mod Gathered
-pub mod Stamps
 pub mod Stored
+pub mod Found
+pub mod Works
+pub mod Shaped

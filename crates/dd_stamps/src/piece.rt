@@ -66,11 +66,17 @@ fn between(column: Column, low: u64, high: u64) -> (usize, usize)
     // A column that goes down reaches the higher position first.
     let behind = column.first + 1;
     let (before, until) = if column.step > 0 {
-        (low.saturating_sub(column.first), high.saturating_sub(column.first))
+        (
+            low.saturating_sub(column.first),
+            high.saturating_sub(column.first),
+        )
     } else {
         (behind.saturating_sub(high), behind.saturating_sub(low))
     };
-    (steps_within(before, step).min(count), steps_within(until, step).min(count))
+    (
+        steps_within(before, step).min(count),
+        steps_within(until, step).min(count),
+    )
 }
 
 /// How many numbers of steps, from none on, stay below a way.

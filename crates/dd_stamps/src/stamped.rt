@@ -1,6 +1,13 @@
-ghost use Rattle.std.specs.Prelude.{◌≡◌, true, ◌&&◌, ◌+◌, ◌*◌, ◌<◌, ◌≤◌, ℕ, pos, length, replicate, IfOk};
+ghost use Rattle.std.specs.Prelude.{◌≡◌, true, ◌&&◌, ◌+◌, ◌*◌, ◌<◌, ◌≤◌, ℕ, pos, length, replicate, IfOk, OnOk};
 ghost use Rattle.std.specs.Coded.{→_prop};
-ghost use Rattle.dd_blocks.specs.Numbered.{IsNumberIn};
+ghost use Rattle.dd_views.specs.IndexList.{index_list};
+ghost use Rattle.dd_views.specs.Views.{IsViewOf};
+ghost use Rattle.dd_blocks.specs.Numbered.{IsNumberIn, array_row, task_row};
+ghost use Rattle.dd_blocks.specs.PlanElements.{element_of};
+ghost use Rattle.dd_blocks.specs.Tasks.{shape_in};
+ghost use Rattle.dd_meaning.specs.Lists.{lists_of};
+ghost use Rattle.dd_stamps.specs.Gathered.{GathersFrom};
+ghost use Rattle.dd_stamps.specs.Stored.{HoldsNumber, HoldsOutputs};
 ghost use Rattle.std.specs.List.{All};
 ghost use Rattle.dd_blocks.specs.WellFormed.{IsWellFormed};
 ghost use Rattle.dd_stamps.specs.Cells.{blank};
@@ -9,11 +16,15 @@ ghost use Rattle.dd_stamps.specs.Cells.{AreTrue, AreTrue-prop};
 ghost use Rattle.dd_stamps.specs.Cells.{size_of};
 
 use crate::fill::filled_block;
+use crate::gathering::gather;
 use crate::places::{take_values, take_versions};
-use crate::rows::{array_with, block_row};
+use crate::rows::{array_with, block_row, task_row};
+use crate::storing::store_all;
+use crate::work::{Stage, Work};
 use dd_blocks::Plan;
 use dd_mark::{Mark, Told};
 use dd_spans::{RunMap, Runs};
+use dd_views::View;
 use std::alloc::{AllocError, Global};
 use std::snapshot::Snapshot;
 
@@ -32,7 +43,8 @@ pub struct Stamped<'p> {
 }
 
 impl<'p> Stamped<'p> {
-    ghost use Rattle.dd_stamps.specs.Copies.{IsOfSameBlock};
+    ghost use Rattle.dd_stamps.specs.Copies.{IsOfSameBlock, written_places};
+    ghost use Rattle.dd_stamps.specs.declared.work.Stage.{Stage};
 
     /// The Plan that it is of.
     pub fn plan(&self) -> &'p Plan
@@ -41,12 +53,14 @@ impl<'p> Stamped<'p> {
         self.plan
     }
 
+    /// The number of its block.
     pub fn block(&self) -> u32
         ensures { result ≡ self.now.block }
     {
         self.block
     }
 
+    /// The version of each place; a blank is 4294967295.
     pub fn versions(&self) -> &RunMap
         ensures { result.now ≡ self.now.versions }
     {
@@ -70,6 +84,68 @@ impl<'p> Stamped<'p> {
         self.told = Told::both(&self.told, &other.told);
     }
 
+    /// Puts the values of the elements of a view that are in this block at their places in a buffer, which is as long as the view.
+    /// The rest of the buffer stays. It takes no memory.
+    pub fn gather(&self, view: &View, into: &mut [i64])
+        requires well { IsWellFormed self.now.plan.now }
+        requires named { IsNumberIn self.now.plan.now.arrays view.now.array }
+        requires view { IsViewOf (shape_in (array_row self.now.plan.now view.now.array)) view.now }
+        requires long { length into.old ≡ length (index_list view.now) }
+        ensures { GathersFrom self.now.plan.now self.now.block self.now.values.items view.now into.old into.new }
+    {
+        let array = array_with(self.plan, self.block);
+        if view.array == block_row(self.plan, self.block).array {
+            let block = u64::from(self.block - array.first_block);
+            gather(&array.grid, block, &self.values, view, into);
+        }
+    }
+
+    /// The elements of this block that a task writes take what it made and its number: a later access wins. It takes no memory.
+    pub fn store_outputs(&mut self, work: &Work<'p>)
+        requires well { IsWellFormed self.old.plan.now }
+        requires plan { work.now.plan ≡ self.old.plan }
+        requires ran { work.now.stage ≡ Stage.Ran }
+        requires spare { 2 * written_places self.old.plan.now work.now.task self.old.block ≤ self.old.versions.spare }
+        ensures kept { IsOfSameBlock self.old self.new }
+        ensures told { self.new.told.mark ≡ (self.old.told.mark && work.now.told.mark) }
+        ensures values { HoldsOutputs (task_row self.old.plan.now work.now.task).accesses (lists_of work.now.args.bufs.items) (element_of self.old.plan.now self.old.block)
+            (size_of self.old.plan.now self.old.block) self.old.values.items self.new.values.items }
+        ensures versions { HoldsNumber (task_row self.old.plan.now work.now.task).accesses (element_of self.old.plan.now self.old.block)
+            (size_of self.old.plan.now self.old.block) work.now.task self.old.versions.list self.new.versions.list }
+        ensures spare { self.old.versions.spare ≤ self.new.versions.spare + 2 * written_places self.old.plan.now work.now.task self.old.block }
+    {
+        let array = array_with(self.plan, self.block);
+        let number = block_row(self.plan, self.block).array;
+        let block = u64::from(self.block - array.first_block);
+        let accesses = task_row(self.plan, work.task).accesses.as_slice();
+        store_all(
+            &array.grid,
+            block,
+            number,
+            accesses,
+            &work.args.bufs,
+            work.task,
+            &mut self.values,
+            &mut self.versions,
+        );
+        self.told = Told::both(&self.told, &work.told);
+    }
+
+    /// Makes the spare of the versions at least so many runs.
+    ///
+    /// # Errors
+    /// Want of memory. All stays as it was, and the spare is no smaller.
+    pub fn reserve(&mut self, runs: u64) -> Result<(), AllocError>
+        ensures ok { OnOk result (runs ≤ self.new.versions.spare) }
+        ensures kept { IsOfSameBlock self.old self.new }
+        ensures versions { self.new.versions.list ≡ self.old.versions.list }
+        ensures values { self.new.values.items ≡ self.old.values.items }
+        ensures told { self.new.told.mark ≡ self.old.told.mark }
+        ensures spare { self.old.versions.spare ≤ self.new.versions.spare }
+    {
+        self.versions.reserve(runs)
+    }
+
     /// Its mark.
     pub fn told(&self) -> Told
         ensures { result.mark ≡ self.now.told.mark }
@@ -88,10 +164,17 @@ impl<'p> Stamped<'p> {
     pub fn into_versions(self) -> RunMap
         ensures { result ≡ self.entry.versions }
     {
-        let Stamped { plan: _, block: _, versions, values: _, told: _ } = self;
+        let Stamped {
+            plan: _,
+            block: _,
+            versions,
+            values: _,
+            told: _,
+        } = self;
         versions
     }
 
+    /// The value of each place.
     pub fn values(&self) -> &[i64]
         ensures { result.now ≡ self.now.values.items }
     {
@@ -132,11 +215,7 @@ pub fn restored<'p, M: Mark>(
 ///
 /// # Errors
 /// Want of memory.
-pub fn fresh_fill<'p>(
-    alloc: Global,
-    plan: &'p Plan,
-    block: u32,
-) -> Result<Stamped<'p>, AllocError>
+pub fn fresh_fill<'p>(alloc: Global, plan: &'p Plan, block: u32) -> Result<Stamped<'p>, AllocError>
     requires well { IsWellFormed plan.now }
     requires known { IsNumberIn plan.now.blocks block }
     ensures plan { IfOk result (λ c. c.plan ≡ plan.entry) }

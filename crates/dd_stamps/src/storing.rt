@@ -9,16 +9,90 @@ ghost use Rattle.dd_spans.specs.Numbers.{is_among};
 ghost use Rattle.dd_stamps.specs.Columns.{HasPlaces, place_at};
 ghost use Rattle.dd_stamps.specs.Placed.{HasPlaced};
 ghost use Rattle.dd_stamps.specs.Stamps.{MayStamp, Spends, pending};
-ghost use Rattle.dd_stamps.specs.Stored.{AreStored, AreStamped};
+ghost use Rattle.dd_stamps.specs.Stored.{AreStored, AreStamped, HoldsNumber, HoldsOutputs, some_writes};
+ghost use Rattle.std.specs.Prelude.{[], ◌∷◌};
+ghost use Rattle.std.specs.List.{All};
+ghost use Rattle.dd_blocks.specs.declared.access_row.AccessRow.{AccessRow};
+ghost use Rattle.dd_meaning.specs.Lists.{lists_of};
+ghost use Rattle.dd_meaning.specs.Written.{HaveLengths};
 
 use crate::gathering::{copy_one, copy_run};
 use crate::piece::{Piece, piece_of, place_of};
-use dd_blocks::Grid;
+use crate::rows::writes;
+use dd_blocks::{AccessRow, Grid};
 use dd_spans::RunMap;
 use dd_views::{Column, View};
 
+/// The elements of a block that accesses write take the values of their buffers and the number of a task, one access after the
+/// other: where they overlap, a later one wins.
+pub(crate) fn store_all(
+    grid: &Grid,
+    block: u64,
+    array: u32,
+    accesses: &[AccessRow],
+    bufs: &[Vec<i64>],
+    task: u32,
+    values: &mut [i64],
+    versions: &mut RunMap,
+)
+    ghost written: { ℕ → Bool }
+    requires grid { IsGrid grid.now }
+    requires block { block < block_count grid.now }
+    requires views { All (λ (a : AccessRow). a.view.array ≡ array → IsViewOf (record { rows = grid.now.rows; cols = grid.now.cols }) a.view) accesses.now }
+    requires long { HaveLengths accesses.now (lists_of bufs.now) }
+    requires full { length values.old ≡ block_size grid.now block }
+    requires stamps { length versions.old.list ≡ block_size grid.now block }
+    requires written { (q : ℕ) → q < block_size grid.now block → some_writes accesses.now (record { array = array; pos = pos_of grid.now block q }) ≡ true → written q ≡ true }
+    requires spare { MayStamp written task versions.old }
+    ensures values { HoldsOutputs accesses.now (lists_of bufs.now) (λ q. record { array = array; pos = pos_of grid.now block q }) (block_size grid.now block) values.old values.new }
+    ensures versions { HoldsNumber accesses.now (λ q. record { array = array; pos = pos_of grid.now block q }) (block_size grid.now block) task versions.old.list versions.new.list }
+    ensures spare { Spends written task versions.old versions.new }
+{
+    for k in 0..accesses.len() {
+        store_one(
+            grid,
+            block,
+            array,
+            accesses[k],
+            &bufs[k],
+            task,
+            values,
+            versions,
+        );
+    }
+}
+
+/// The same of one access.
+fn store_one(
+    grid: &Grid,
+    block: u64,
+    array: u32,
+    access: AccessRow,
+    from: &[i64],
+    task: u32,
+    values: &mut [i64],
+    versions: &mut RunMap,
+)
+    ghost written: { ℕ → Bool }
+    requires grid { IsGrid grid.now }
+    requires block { block < block_count grid.now }
+    requires view { access.view.array ≡ array → IsViewOf (record { rows = grid.now.rows; cols = grid.now.cols }) access.view }
+    requires long { length from.now ≡ length (index_list access.view) }
+    requires full { length values.old ≡ block_size grid.now block }
+    requires stamps { length versions.old.list ≡ block_size grid.now block }
+    requires written { (q : ℕ) → q < block_size grid.now block → some_writes (access ∷ []) (record { array = array; pos = pos_of grid.now block q }) ≡ true → written q ≡ true }
+    requires spare { MayStamp written task versions.old }
+    ensures values { HoldsOutputs (access ∷ []) (from.now ∷ []) (λ q. record { array = array; pos = pos_of grid.now block q }) (block_size grid.now block) values.old values.new }
+    ensures versions { HoldsNumber (access ∷ []) (λ q. record { array = array; pos = pos_of grid.now block q }) (block_size grid.now block) task versions.old.list versions.new.list }
+    ensures spare { Spends written task versions.old versions.new }
+{
+    if writes(access.mode) && access.view.array == array {
+        store(grid, block, &access.view, from, task, values, versions);
+    }
+}
+
 /// The elements of a view that are in a block take the values of a buffer and the number of a task, column by column.
-pub(crate) fn store(
+fn store(
     grid: &Grid,
     block: u64,
     view: &View,

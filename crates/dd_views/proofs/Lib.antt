@@ -1,4 +1,5 @@
 pub mod SignedLemmas
+pub mod NumberAtLemmas
 pub mod ProgressionLemmas
 pub mod SpanLemmas
 pub mod SomeLemmas

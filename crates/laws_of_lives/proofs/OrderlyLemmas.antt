@@ -6,7 +6,7 @@ use Rattle.std.proofs.Math.Seq.{get_or-append_seam}
 use Rattle.std.proofs.Math.ListN.{get_or-append}
 use Rattle.std.proofs.lemmas.Bool.{and_parts, cases_lt, eq-eqb, eqb-true, false_from_ne_true, or_cases, or_left}
 use Rattle.std.proofs.lemmas.Bool.Decides.{eqb_tells}
-use Rattle.std.proofs.lemmas.List.{get_or_past}
+use Rattle.std.proofs.lemmas.List.{get_or_default, get_or_past}
 use Rattle.std.proofs.lemmas.List.Elements.{All-contains, All-get_or, Contains-append_cases, Contains-append_left, Contains-append_right, filter_map-append}
 use Rattle.std.proofs.lemmas.List.Folds.{Any-from_list_any}
 use Rattle.std.proofs.lemmas.List.FromFn.{get_or-range_with_len, length-range_with_len}
@@ -46,8 +46,9 @@ use Rattle.laws_of_lives.proofs.EventsLemmas.{begun_append, begun_row, keeps_liv
 use Rattle.laws_of_lives.proofs.RegionsLemmas.{begun_up_of, closed_below_of, unbegun_of, unclosed_of}
 use Rattle.laws_of_lives.proofs.RowsLemmas.{begin_first, begun_rows, row_is}
 use Rattle.dd_blocks.proofs.LayoutLemmas.{grid_stands, has_block}
-use Rattle.dd_blocks.proofs.NumberedLemmas.{numbered-get, task_names_rows}
-use Rattle.dd_lists.proofs.ListsLemmas.{number_in}
+use Rattle.dd_blocks.proofs.NumberedLemmas.{numbered-get, task_names_rows, task_within}
+use Rattle.dd_lists.proofs.ListsLemmas.{Contains-filter, number_in}
+use Rattle.dd_views.proofs.WithinLemmas.{element_within}
 
 -- ---- lists
 
@@ -55,21 +56,6 @@ contains_flat : {X Y : Type 0} (f : X → List Y) (xs : List X) (x : X) (y : Y) 
 contains_flat f [] x y here there = absurd (omega (arith, here.1))
 contains_flat f (z ∷ xs) x y (zero, lt, is) there = Contains-append_left (f z) (flat_map f xs) y (subst (λ w. Contains (f w) y) (sym is) there)
 contains_flat f (z ∷ xs) x y (suc k, lt, is) there = Contains-append_right (f z) (flat_map f xs) y (contains_flat f xs x y (k, omega (arith, lt), is) there)
-
-contains_filter : {X : Type 0} (p : X → Bool) (xs : List X) (x : X) → Contains xs x → p x ≡ true → Contains (filter p xs) x
-contains_filter p [] x here is = absurd (omega (arith, here.1))
-contains_filter p (z ∷ xs) x (zero, lt, same) is = rw (ap p same ∙ is) (0, omega arith, same)
-contains_filter p (z ∷ xs) x (suc k, lt, same) is = by (p z) (contains_filter p xs x (k, omega (arith, lt), same) is)
-  where
-    by : (t : Bool) → Contains (filter p xs) x → Contains (cond t (z ∷ filter p xs) (filter p xs)) x
-    by true h = (suc h.0, omega (arith, h.1), h.2)
-    by false h = h
-
--- within a list any default reads the same
-get_or_any : {X : Type 0} (xs : List X) (i : ℕ) (c d : X) → i < length xs → get_or xs i c ≡ get_or xs i d
-get_or_any [] i c d lt = absurd (omega (arith, lt))
-get_or_any (x ∷ xs) zero c d lt = refl
-get_or_any (x ∷ xs) (suc i) c d lt = get_or_any xs i c d (omega (arith, lt))
 
 -- ---- rows
 
@@ -146,15 +132,6 @@ live_upto plan well a b within here (suc i) le live =
 
 -- ---- tasks
 
-pub task_within : (plan : Plan) (p : AccessRow → Bool) (t : ℕ) → list_any p (task_row plan t).accesses ≡ true → IsNumberIn plan.tasks t
-task_within plan p zero some = absurd cc
-task_within plan p (suc t) some = ⊎_elim
-    (λ (past : length plan.tasks ≤ t).
-    let none : list_any p (task_row plan (suc t)).accesses ≡ false = ap (λ (row : TaskRow). list_any p row.accesses) (get_or_past plan.tasks t no_task past) in
-    absurd (let no : true ≡ false = sym some ∙ none in cc))
-    (λ (lt : t < length plan.tasks). (omega arith, lt))
-    (⊎_elim (λ (lt : t < length plan.tasks). inr lt) (λ (le : length plan.tasks ≤ t). inl le) (cases_lt t (length plan.tasks)))
-
 -- an array that a task of a region accesses is one of which the region's row speaks
 used_in : (plan : Plan) (r t : ℕ) (access : AccessRow) → IsOf plan r t → Contains (task_row plan t).accesses access → Contains (arrays_used plan (Region r)) access.view.array
 used_in plan r t access of has =
@@ -162,22 +139,11 @@ used_in plan r t access of has =
     let e : row ≡ get_or plan.tasks (t - 1) no_task = numbered-get no_task plan.tasks t of.0.0 in
     let here : Contains plan.tasks row = (t - 1, omega (arith, of.0.0, of.0.1), task_at plan.tasks (t - 1) row no_task (omega (arith, of.0.0, of.0.1)) e) in
     contains_flat (λ (u : TaskRow). flat_map (λ (a : AccessRow). a.view.array ∷ []) u.accesses) (tasks_of plan r) row access.view.array
-    (contains_filter (λ (u : TaskRow). eqb u.region r) plan.tasks row here (eq-eqb row.region r of.1))
+    (Contains-filter (λ (u : TaskRow). eqb u.region r) plan.tasks row here (eq-eqb row.region r of.1))
     (contains_flat (λ (a : AccessRow). a.view.array ∷ []) row.accesses access access.view.array has (0, omega arith, refl))
   where
     task_at : (xs : List TaskRow) (i : ℕ) (x d : TaskRow) → i < length xs → x ≡ get_or xs i d → get_or xs i x ≡ x
-    task_at xs i x d lt e = get_or_any xs i x d lt ∙ sym e
-
--- an element of a view stands within its array
-element_within : (shape : Shape) (v : View) (pos : ℕ) → IsViewOf shape v → Contains (index_list v) pos → pos < shape.rows * shape.cols
-element_within shape v pos view there =
-    let e = found (position v) v.part v.rows.count v.cols.count pos there in
-    let at = numbers v pos e.0 e.1 (shape, view) e.2 in
-    let r = number_low shape.rows v.rows e.0 view.rows e.2.row.0 e.2.row.1 in
-    let c = number_low shape.cols v.cols e.1 view.cols e.2.col.0 e.2.col.1 in
-    let row : pos % v.height < v.height = omega (arith, at.row, r.1, view.height) in
-    let col : pos / v.height < shape.cols = omega (arith, at.col, c.1) in
-    omega (arith, mul-add-lt (pos / v.height) v.height (pos % v.height) shape.cols col row, div-add-mod' pos v.height, ap (λ (h : ℕ). h * shape.cols) view.height)
+    task_at xs i x d lt e = get_or_default xs i x d lt ∙ sym e
 
 -- a touched block is one of an array that the task accesses
 pub record IsTouched (plan : Plan) (r t b : ℕ) : Type 0 where

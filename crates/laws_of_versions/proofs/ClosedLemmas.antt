@@ -11,7 +11,7 @@ use Rattle.dd_blocks.specs.declared.plan.Plan.{Plan}
 use Rattle.dd_blocks.specs.Numbered.{task_row}
 use Rattle.dd_machine.specs.declared.event.Event.TheVariants.{Close}
 use Rattle.dd_machine.specs.declared.task_state.TaskState.{TaskState}
-use Rattle.dd_machine.specs.declared.task_state.TaskState.TheVariants.{Waiting, Held, Running, Done}
+use Rattle.dd_machine.specs.declared.task_state.TaskState.TheVariants.{Done, Held, Running, Waiting}
 use Rattle.dd_machine.specs.Legal.{IsNext}
 use Rattle.dd_machine.specs.Sound.{IsSound}
 use Rattle.dd_machine.specs.States.{State}
@@ -41,12 +41,13 @@ unfolding writes
 last_writer_le plan e n = (latest_le (λ t. true && task_writes (task_row plan t) e) n, latest_passes (λ t. true && task_writes (task_row plan t) e) n)
 
 -- the current version is the greatest done task that writes the element
-pub current_is : (plan : Plan) (st : State) (e : Element) → SoundLives plan st → SoundVersions plan st → st.current e ≡ last_writer_among plan (λ t. is_done (st.tasks t)) e (tasks plan)
+pub current_among : (plan : Plan) (st : State) (e : Element) → (st.current e ≢ 0 → (st.tasks (st.current e) ≡ Done) × (writes plan (st.current e) e ≡ true)) → ((u : ℕ) → st.tasks u ≡ Done → writes plan u e ≡ true → u ≤ st.current e)
+    → st.current e ≡ last_writer_among plan (λ t. is_done (st.tasks t)) e (tasks plan)
 unfolding writes
-current_is plan st e lives versions = sym (latest_is (λ t. is_done (st.tasks t) && task_writes (task_row plan t) e) (st.current e) (tasks plan)
-    (⊎_elim (λ (z : st.current e ≡ 0). omega (arith, z)) (λ (nz : st.current e ≡ 0 → ⊥). (writer_within plan (st.current e) e (lives.current_done e nz).1).1) (cases_eq (st.current e) 0))
-    (λ some. let d = lives.current_done e some in and_from (is_done (st.tasks (st.current e))) (task_writes (task_row plan (st.current e)) e) (ap is_done d.0) d.1)
-    (λ u le is. let p = and_parts (is_done (st.tasks u)) (task_writes (task_row plan u) e) is in versions.current_last e u (done_is (st.tasks u) p.0) p.1))
+current_among plan st e done last = sym (latest_is (λ t. is_done (st.tasks t) && task_writes (task_row plan t) e) (st.current e) (tasks plan)
+    (⊎_elim (λ (z : st.current e ≡ 0). omega (arith, z)) (λ (nz : st.current e ≡ 0 → ⊥). (writer_within plan (st.current e) e (done nz).1).1) (cases_eq (st.current e) 0))
+    (λ some. let d = done some in and_from (is_done (st.tasks (st.current e))) (task_writes (task_row plan (st.current e)) e) (ap is_done d.0) d.1)
+    (λ u le is. let p = and_parts (is_done (st.tasks u)) (task_writes (task_row plan u) e) is in last u (done_is (st.tasks u) p.0) p.1))
 
 pub current_is_last : (plan : Plan) (st : State) (r : ℕ) (e : Element) → IsWellFormed plan → IsOrderly plan → IsSound plan st → st.region ≡ Some r → AllDone plan st r → st.current e ≡ last_version plan r e
 current_is_last plan st r e well order sound open_is all_done = sym (last_is plan e (st.current e) (tasks_through plan r) low (λ some. (sound.lives.current_done e some).1) high)

@@ -1,7 +1,8 @@
-use Rattle.dd_check.proofs.KnownLemmas.{known_array}
+use Rattle.std.proofs.Common.{◌≡◌, Some, sym, ◌∙◌}
+use Rattle.dd_check.specs.Lookup.{array_by}
 use Rattle.dd_check.proofs.array.array_of.Goals as goal
 
 pub returns-clause-within : goal.returns-clause-within
 returns-clause-within c =
-    rw (c.unwrap_or.ensures, c.array.ensures, c.as_bytes.ensures)
-    (known_array _ _ _ c.requires.sound.above c.requires.known)
+    let is : array_by c.args.draft.now.names c.args.name.now ≡ Some c.in-Some.array = rw c.as_bytes.ensures at (sym c.array.ensures ∙ c.in-Some.is) in
+    (c.requires.sound.above.names.live c.args.name.now c.in-Some.array is).0

@@ -9,9 +9,9 @@ use Rattle.dd_check.proofs.script.read_line.Goals as goal
 pub returns-in-Some-clause-taken : goal.returns-in-Some-clause-taken
 returns-in-Some-clause-taken c =
     let reads : Reads c.args.bytes.now (Some c.in-Some.x) = subst (λ (o : Option Statement). Reads c.args.bytes.now o) c.in-Some.is c.in_ok-x.ensures.reads in
-    both_on_ok c.take.result (λ clear enters. inr (c.in-Some.x, reads, clear, enters)) c.take.ensures.clear c.take.ensures.enters
+    both_on_ok c.admit.result (λ clear enters. inr (c.in-Some.x, reads, clear, enters)) c.admit.ensures.clear c.admit.ensures.enters
 
 pub returns-in-Some-clause-fault : goal.returns-in-Some-clause-fault
 returns-in-Some-clause-fault c =
     let reads : Reads c.args.bytes.now (Some c.in-Some.x) = subst (λ (o : Option Statement). Reads c.args.bytes.now o) c.in-Some.is c.in_ok-x.ensures.reads in
-    IfErr-weaker c.take.result _ _ (λ e found. found_refused e (c.args.above + 1) (above_of c.args.draft.now) c.args.bytes.now c.in-Some.x reads found) c.take.ensures.fault
+    IfErr-weaker c.admit.result _ _ (λ e found. found_refused e (c.args.above + 1) (above_of c.args.draft.now) c.args.bytes.now c.in-Some.x reads found) c.admit.ensures.fault

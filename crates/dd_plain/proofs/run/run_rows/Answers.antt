@@ -7,7 +7,7 @@ use Rattle.dd_causes.proofs.AppendedLemmas.{all_but_more, all_but_start, front_i
 use Rattle.dd_causes.proofs.CountsLemmas.{anyway_on_err}
 use Rattle.dd_meaning.specs.Text.{row_text, text_of}
 use Rattle.dd_meaning.proofs.TextLemmas.{text_of_rows}
-use Rattle.dd_plain.proofs.PrintingLemmas.{next_left}
+use Rattle.dd_lists.proofs.ListsLemmas.{next_left}
 use Rattle.dd_plain.proofs.run.run_rows.Goals as goal
 
 pub loop-i-init : goal.loop-i-init

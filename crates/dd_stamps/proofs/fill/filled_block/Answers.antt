@@ -1,4 +1,4 @@
-use Rattle.std.proofs.Common.{◌≡◌, ℕ, ◌+◌, ◌∙◌, ap, sym, refl, arith, List, ℤ, ◌++◌, ◌∷◌, []}
+use Rattle.std.proofs.Common.{◌∙◌, ap}
 use Rattle.dd_meaning.specs.Worlds.{filled_at}
 use Rattle.dd_blocks.specs.Grids.{pos_of}
 use Rattle.dd_meaning.proofs.FillLemmas.{one_more}

@@ -1,5 +1,5 @@
-use Rattle.std.proofs.Common.{◌≡◌, ◌≢◌, ℕ, ◌+◌, ◌≤◌, ◌<◌, ℤ, pos, true, false, List, get_or, length, eq-eqb, refl, sym, ap, ◌∙◌, subst, arith}
-use Rattle.std.specs.Prelude.{nat_eq, slice_index}
+use Rattle.std.proofs.Common.{◌≡◌, ℕ, ◌+◌, ◌<◌, length, eq-eqb, refl, sym, ap, ◌∙◌, arith}
+use Rattle.std.specs.Prelude.{slice_index}
 use Rattle.dd_kernels.specs.Lists.{element}
 use Rattle.dd_views.specs.IndexList.{index_list}
 use Rattle.dd_views.specs.Positions.{position_in}
@@ -39,13 +39,12 @@ loop-j-preserved c =
     record {
       place = ap (λ (n : ℕ). n + c.column-column.result.count) c.loop-j.invariant.place ∙ column_ends view c.loop-j.j column c.loop-j-test.true c.column-column.ensures.value;
       done = column_gathered _ _ c.loop-j.at c.column-column.result.count c.piece_of-piece.result.from c.piece_of-piece.result.end _ _ _ _ c.loop-j.invariant.done c.gather_column.ensures piece.few
-      (λ i lt is. piece.others i lt (ap (block_of c.args.grid.now) (sym (at i lt)) ∙ same_numbers _ _ is))
-      (λ i from lt.
-        let less : i < c.column-column.result.count = omega (arith, lt, piece.few) in
-        (
-          eq-eqb _ _ (ap (block_of c.args.grid.now) (at i less) ∙ piece.here i from lt),
-          ap (element c.args.values.now) (sym (piece.place_is i from lt) ∙ ap (place_in_block c.args.grid.now) (sym (at i less))),
-        ));
+          (λ i lt is. piece.others i lt (ap (block_of c.args.grid.now) (sym (at i lt)) ∙ same_numbers _ _ is))
+          (λ i from lt.
+          let less : i < c.column-column.result.count = omega (arith, lt, piece.few) in (
+            eq-eqb _ _ (ap (block_of c.args.grid.now) (at i less) ∙ piece.here i from lt),
+            ap (element c.args.values.now) (sym (piece.place_is i from lt) ∙ ap (place_in_block c.args.grid.now) (sym (at i less))),
+          ));
     }
 
 pub returns : goal.returns

@@ -9,5 +9,5 @@ abbrev pub invariant-loop-j : goal.invariant-loop-j
 invariant-loop-j l = record {
   place : l.at ≡ length (columns_before l.view l.j);
   done : IsGathering (λ k. nat_eq (block_of l.grid (slice_index (index_list l.view) k)) l.block)
-    (λ k. get_or l.values (place_in_block l.grid (slice_index (index_list l.view) k)) (pos 0)) l.at l.initial.into l.into;
+      (λ k. get_or l.values (place_in_block l.grid (slice_index (index_list l.view) k)) (pos 0)) l.at l.initial.into l.into;
 }

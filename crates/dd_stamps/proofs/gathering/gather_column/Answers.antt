@@ -1,4 +1,4 @@
-use Rattle.std.proofs.Common.{◌≡◌, ℕ, ◌+◌, ◌-◌, ◌≤◌, ◌<◌, ℤ, pos, List, get_or, sym, ap, ◌∙◌, arith, rules}
+use Rattle.std.proofs.Common.{ℕ, ◌+◌, ◌-◌, ◌<◌, pos, get_or, sym, ap, ◌∙◌, arith, rules}
 use Rattle.dd_stamps.proofs.ColumnsLemmas.{one_step, run_place}
 use Rattle.dd_stamps.proofs.PlacedLemmas.{run_placed}
 use Rattle.dd_stamps.proofs.gathering.gather_column.Goals as goal
@@ -18,4 +18,5 @@ returns-then-column-eq1 c =
     (λ i low lt. (
       omega arith,
       ap (λ (n : ℕ). get_or c.args.values.now n (pos 0)) (run_place c.args.column c.args.piece c.args.piece.from i one low (c.requires.places.low_is c.args.piece.from (omega arith) some)
-      ∙ ap (λ (n : ℕ). n + (i - c.args.piece.from)) (sym c.place_of-first.ensures))))
+          ∙ ap (λ (n : ℕ). n + (i - c.args.piece.from)) (sym c.place_of-first.ensures)),
+    ))

@@ -1,4 +1,4 @@
-use Rattle.std.proofs.Common.{◌≡◌, ℕ, ◌+◌, ◌≤◌, ◌<◌, ℤ, pos, List, get_or, ap, ◌∙◌, subst, arith}
+use Rattle.std.proofs.Common.{◌≡◌, ℕ, ◌+◌, pos, get_or, ap, ◌∙◌, subst, arith}
 use Rattle.dd_kernels.specs.Lists.{element}
 use Rattle.dd_stamps.specs.Columns.{place_at}
 use Rattle.dd_stamps.specs.Placed.{HasPlaced}

@@ -1,4 +1,4 @@
-use Rattle.std.proofs.Common.{ℕ, ◌+◌, ◌≤◌, pos}
+use Rattle.std.proofs.Common.{◌+◌, pos}
 use Rattle.dd_kernels.specs.Lists.{element}
 use Rattle.dd_stamps.specs.Columns.{place_at}
 use Rattle.dd_stamps.specs.Placed.{HasPlaced}

@@ -1,5 +1,5 @@
-use Rattle.std.proofs.Common.{◌≡◌, ℕ, ◌+◌, ◌*◌, ◌-◌, ◌/◌, ◌%◌, ◌≤◌, ◌<◌, min, refl, sym, ap, ◌∙◌, arith}
-use Rattle.dd_blocks.specs.Grids.{block_height, block_rows, col_of}
+use Rattle.std.proofs.Common.{◌≡◌, ℕ, ◌+◌, ◌*◌, ◌/◌, ◌%◌, ◌≤◌, refl, ap, arith}
+use Rattle.dd_blocks.specs.Grids.{block_height, col_of}
 use Rattle.dd_stamps.proofs.PieceLemmas.{block_top, col_start, piece_beside, piece_within_column}
 use Rattle.dd_stamps.proofs.piece.piece_of.Goals as goal
 

@@ -1,6 +1,4 @@
-use Rattle.std.proofs.Common.{refl, ◌≡◌, ℕ, sym, ap, ◌∙◌, subst}
-use Rattle.dd_blocks.specs.Numbered.{IsNumberIn}
-use Rattle.dd_blocks.specs.declared.block_row.BlockRow.{BlockRow}
+use Rattle.std.proofs.Common.{refl}
 use Rattle.dd_blocks.proofs.LayoutLemmas.{block_stands}
 use Rattle.dd_stamps.proofs.rows.array_with.Goals as goal
 

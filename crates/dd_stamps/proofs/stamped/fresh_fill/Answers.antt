@@ -9,7 +9,7 @@ use Rattle.dd_meaning.specs.Worlds.{filled_at}
 use Rattle.dd_spans.specs.PlaceMap.{PlaceMap}
 use Rattle.dd_stamps.specs.Cells.{AreTrue}
 use Rattle.dd_stamps.specs.Cells.{size_of}
-use Rattle.dd_blocks.specs.PlanElements.{block_in_grid, grid_of}
+use Rattle.dd_blocks.specs.PlanElements.{block_in_grid}
 use Rattle.dd_stamps.proofs.CellsLemmas.{filled_true}
 use Rattle.dd_blocks.proofs.LayoutLemmas.{block_stands}
 use Rattle.dd_stamps.proofs.stamped.fresh_fill.Goals as goal

@@ -14,11 +14,11 @@ invariant-loop-j g l = record {
   full : length l.values ≡ length l.initial.values;
   stamps : length l.versions.list ≡ length l.initial.versions.list;
   values : (q : ℕ) → q < block_size l.grid l.block
-    → put_value (columns_from l.view l.j) (drop l.at l.from) (pos_of l.grid l.block q) (element l.values q)
-    ≡ put_value (index_list l.view) l.from (pos_of l.grid l.block q) (element l.initial.values q);
+      → put_value (columns_from l.view l.j) (drop l.at l.from) (pos_of l.grid l.block q) (element l.values q)
+      ≡ put_value (index_list l.view) l.from (pos_of l.grid l.block q) (element l.initial.values q);
   versions : (q : ℕ) → q < block_size l.grid l.block
-    → cond (is_among (columns_from l.view l.j) (pos_of l.grid l.block q)) l.task (slice_index l.versions.list q)
-    ≡ cond (is_among (index_list l.view) (pos_of l.grid l.block q)) l.task (slice_index l.initial.versions.list q);
+      → cond (is_among (columns_from l.view l.j) (pos_of l.grid l.block q)) l.task (slice_index l.versions.list q)
+      ≡ cond (is_among (index_list l.view) (pos_of l.grid l.block q)) l.task (slice_index l.initial.versions.list q);
   spare : Spends g.written l.task l.initial.versions l.versions;
 }
 

@@ -1,10 +1,9 @@
-use Rattle.std.proofs.Common.{◌≡◌, ◌≢◌, ℕ, ◌+◌, ◌≤◌, ◌<◌, ℤ, pos, List, get_or, ap, ◌∙◌, sym, subst, arith, ⊎_elim}
+use Rattle.std.proofs.Common.{◌≡◌, ◌≢◌, ℕ, ◌+◌, ◌≤◌, ◌<◌, pos, get_or, ◌∙◌, subst, arith}
 use Rattle.std.specs.Prelude.{slice_index}
 use Rattle.dd_kernels.specs.Lists.{element}
 use Rattle.dd_stamps.specs.Columns.{place_at}
-use Rattle.dd_stamps.specs.Placed.{HasPlaced}
-use Rattle.dd_stamps.proofs.PlacedLemmas.{one_copied, placed_more, placed_none}
-use Rattle.dd_stamps.proofs.StampsLemmas.{one_stamped, spends_more, spends_none}
+use Rattle.dd_stamps.proofs.PlacedLemmas.{one_copied, placed_more}
+use Rattle.dd_stamps.proofs.StampsLemmas.{one_stamped, spends_more}
 use Rattle.dd_stamps.proofs.storing.store_steps.Goals as goal
 
 pub loop-i-preserved : goal.loop-i-preserved
@@ -16,10 +15,10 @@ loop-i-preserved g c =
     let apart : (k : ℕ) → c.args.piece.from ≤ k → k < c.loop-i.i → place_at c.args.column c.args.piece k ≢ place_at c.args.column c.args.piece c.loop-i.i = λ k low lt. places.apart k c.loop-i.i low lt (omega arith) in
     record {
       values = placed_more (pos 0) c.args.piece.from c.loop-i.i (place_at c.args.column c.args.piece) (λ k. element c.args.from.now (c.args.at + k)) c.args.values.now c.loop-i.values c.copy_one.new.into c.loop-i.invariant.values (omega arith) c.copy_one.ensures.count
-      (subst (λ (n : ℕ). get_or c.copy_one.new.into n (pos 0) ≡ element c.args.from.now (c.args.at + c.loop-i.i)) at_is one.0)
-      (λ q ne. one.1 q (λ e. ne (e ∙ at_is))) apart;
+          (subst (λ (n : ℕ). get_or c.copy_one.new.into n (pos 0) ≡ element c.args.from.now (c.args.at + c.loop-i.i)) at_is one.0)
+          (λ q ne. one.1 q (λ e. ne (e ∙ at_is))) apart;
       versions = placed_more 0 c.args.piece.from c.loop-i.i (place_at c.args.column c.args.piece) (λ _. c.args.task) c.args.versions.now.list c.loop-i.versions.list c.stamp.new.versions.list c.loop-i.invariant.versions (omega arith) c.stamp.ensures.len
-      (subst (λ (n : ℕ). slice_index c.stamp.new.versions.list n ≡ c.args.task) at_is stamped.0)
-      (λ q ne. stamped.1 q (λ e. ne (e ∙ at_is))) apart;
+          (subst (λ (n : ℕ). slice_index c.stamp.new.versions.list n ≡ c.args.task) at_is stamped.0)
+          (λ q ne. stamped.1 q (λ e. ne (e ∙ at_is))) apart;
       spare = spends_more g.written c.args.task c.args.versions.now c.loop-i.versions c.stamp.new.versions c.loop-i.invariant.spare c.stamp.ensures.spare;
     }

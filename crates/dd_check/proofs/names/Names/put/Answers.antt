@@ -1,5 +1,5 @@
 use Rattle.std.proofs.Common.{◌≡◌, ℕ, List, Some, subst}
-use Rattle.dd_check.specs.Naming.{Renames}
+use Rattle.dd_check.specs.Lookup.{Renames}
 use Rattle.dd_check.proofs.NamesLemmas.{changed_at}
 use Rattle.dd_check.proofs.names.Names.put.Goals as goal
 

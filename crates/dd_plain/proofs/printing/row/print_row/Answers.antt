@@ -1,6 +1,0 @@
-use Rattle.dd_causes.proofs.AppendedLemmas.{front_untouched}
-use Rattle.dd_causes.proofs.CountsLemmas.{anyway_on_err}
-use Rattle.dd_plain.proofs.printing.row.print_row.Goals as goal
-
-pub returns-in_err-push_row-clause-front : goal.returns-in_err-push_row-clause-front
-returns-in_err-push_row-clause-front g c = anyway_on_err _ (front_untouched _ _)

@@ -1,0 +1,9 @@
+pub mod ListsLemmas
+pub mod PlacesLemmas
+pub mod SmallLemmas
+pub mod SumsLemmas
+pub mod TablesLemmas
+pub mod VersionsLemmas
+pub mod CurrentsLemmas
+pub mod WorkLemmas
+pub mod HeldLemmas

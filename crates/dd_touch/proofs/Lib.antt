@@ -1,0 +1,4 @@
+pub mod PieceLemmas
+pub mod TouchedLemmas
+pub mod TouchedPlanLemmas
+pub mod SmallLemmas
