@@ -5,7 +5,7 @@ ghost use Rattle.dd_blocks.specs.Elements.{Element};
 ghost use Rattle.dd_blocks.specs.Layout.{elements_in};
 ghost use Rattle.dd_blocks.specs.Numbered.{IsNumberIn, block_row};
 ghost use Rattle.dd_blocks.specs.PlanElements.{IsElement, number_of};
-ghost use Rattle.dd_blocks.specs.WellFormed.{IsRegion, IsWellFormed};
+ghost use Rattle.dd_blocks.specs.WellFormed.{IsWellFormed};
 ghost use Rattle.dd_history.specs.Currents.{AreVersions, IsFinished, is_lacking};
 ghost use Rattle.dd_meaning.specs.Moves.{source_of};
 
@@ -47,6 +47,13 @@ impl Cur {
         })
     }
 
+    /// How many elements there are.
+    pub fn len(&self) -> u64
+        ensures { result ≡ length self.now.list }
+    {
+        self.versions.len()
+    }
+
     /// The version of an element.
     pub fn version(&self, element: u64) -> u32
         requires { element < length self.now.list }
@@ -84,7 +91,6 @@ impl Cur {
     pub fn source(&self, plan: &Plan, region: u32, element: u64) -> u32
         requires well { IsWellFormed plan.now }
         requires versions { AreVersions plan.now self.now.list }
-        requires region { IsRegion plan.now region }
         requires element { element < elements_in plan.now.arrays }
         ensures { (e : Element) → IsElement plan.now e → number_of plan.now e ≡ element
             → result ≡ source_of plan.now region e (slice_index self.now.list element) }
@@ -116,7 +122,6 @@ impl Cur {
     ) -> Result<Runs, AllocError>
         requires well { IsWellFormed plan.now }
         requires versions { AreVersions plan.now self.now.list }
-        requires region { IsRegion plan.now region }
         requires block { IsNumberIn plan.now.blocks block }
         requires wanted { All (λ place. place < (block_row plan.now block).size) wanted.now.list }
         requires held { length held.now.list ≡ (block_row plan.now block).size }

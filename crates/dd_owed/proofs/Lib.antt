@@ -1,3 +1,4 @@
 mod PiecesLemmas
 mod BlocksLemmas
+mod HomesLemmas
 mod RowsLemmas

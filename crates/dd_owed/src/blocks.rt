@@ -1,11 +1,13 @@
 //! The blocks of an array, by their places in the lists that statements go through. Places are from 0.
-ghost use Rattle.std.specs.Prelude.{◌≡◌, ◌<◌, slice_get, IfSome};
+ghost use Rattle.std.specs.Prelude.{◌≡◌, ◌-◌, ◌<◌, slice_get, take, IfSome, None};
+ghost use Rattle.std.specs.List.{last_or};
+ghost use Rattle.dd_blocks.specs.Homes.{space_moved_to, spaces_of};
 ghost use Rattle.dd_blocks.specs.Limits.{blocks_limit};
-ghost use Rattle.dd_blocks.specs.Numbered.{IsNumberIn, array_row};
+ghost use Rattle.dd_blocks.specs.Numbered.{IsNumberIn, array_row, block_row};
 ghost use Rattle.dd_blocks.specs.WellFormed.{IsWellFormed};
 ghost use Rattle.dd_machine.specs.Owed.{blocks_by_rows, blocks_elsewhere, blocks_of};
 
-use dd_blocks::{ArrayRow, Plan};
+use dd_blocks::{ArrayRow, Plan, StatementRow, What};
 
 /// The row of an array.
 fn array_row(plan: &Plan, array: u32) -> ArrayRow
@@ -13,6 +15,46 @@ fn array_row(plan: &Plan, array: u32) -> ArrayRow
     ensures { result ≡ array_row plan.now array }
 {
     plan.arrays.as_slice()[array as usize - 1]
+}
+
+/// The home of a block when its array is made.
+fn first_home(plan: &Plan, block: u32) -> u32
+    requires { IsNumberIn plan.now.blocks block }
+    ensures { result ≡ (block_row plan.now block).home }
+{
+    plan.blocks.as_slice()[block as usize - 1].home
+}
+
+/// The space to which a statement moves an array.
+fn moves(what: &What, array: u32) -> Option<u32>
+    ensures { result ≡ space_moved_to array what.now }
+{
+    match what {
+        What::MoveTo {
+            array: moved,
+            space,
+        } if *moved == array => Some(*space),
+        _ => None,
+    }
+}
+
+/// The space to which the last statement above a row moved an array.
+fn moved_to(plan: &Plan, row: u32, array: u32) -> Option<u32>
+    requires { IsNumberIn plan.now.statements row }
+    ensures { result ≡ last_or None (spaces_of array (take (row - 1) plan.now.statements)) }
+{
+    last_space(&plan.statements.as_slice()[..row as usize - 1], array)
+}
+
+/// The space to which the last of some statements moved an array.
+fn last_space(rows: &[StatementRow], array: u32) -> Option<u32>
+    ensures { result ≡ last_or None (spaces_of array rows.now) }
+{
+    let mut space = None;
+    for row in rows {
+        space = moves(&row.what, array).or(space);
+    }
+    space
 }
 
 /// The block at a place, rising.
@@ -65,10 +107,12 @@ pub(crate) fn block_elsewhere_at(
     ensures few { IfSome result (λ _. i < blocks_limit) }
 {
     let found = array_row(plan, array);
+    let moved = moved_to(plan, row, array);
     let mut left = i;
     for j in 0..found.grid.blocks() {
         let block = found.first_block + j as u32;
-        if plan.home_before(row, block) != space {
+        let home = moved.unwrap_or(first_home(plan, block));
+        if home != space {
             if left == 0 {
                 return Some(block);
             }
