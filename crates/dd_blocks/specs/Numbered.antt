@@ -7,7 +7,9 @@ use Rattle.dd_blocks.specs.declared.fill.Fill.TheVariants.{Zeros}
 use Rattle.dd_blocks.specs.declared.plan.Plan.{Plan}
 use Rattle.dd_blocks.specs.declared.proc_row.ProcRow.{ProcRow}
 use Rattle.dd_blocks.specs.declared.space_row.SpaceRow.{SpaceRow}
+use Rattle.dd_blocks.specs.declared.statement_row.StatementRow.{StatementRow}
 use Rattle.dd_blocks.specs.declared.task_row.TaskRow.{TaskRow}
+use Rattle.dd_blocks.specs.declared.what.What.TheVariants.{Moved}
 
 -- there is a row of the number
 abbrev pub IsNumberIn : {Row : Type 0} → List Row → ℕ → Type 0
@@ -38,3 +40,7 @@ block_row plan n = numbered (record { array = 0; home = 0; size = 0 }) plan.bloc
 
 abbrev pub task_row : Plan → ℕ → TaskRow
 task_row plan n = numbered no_task plan.tasks n
+
+-- a statement row; one with nothing to do stands for no row
+abbrev pub statement_row : Plan → ℕ → StatementRow
+statement_row plan n = numbered (record { line = 0; what = Moved }) plan.statements n

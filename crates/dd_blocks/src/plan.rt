@@ -28,7 +28,7 @@ pub struct Plan {
 
 impl Plan {
     ghost use Rattle.dd_blocks.specs.Homes.{home_before};
-    ghost use Rattle.dd_blocks.specs.Numbered.{IsNumberIn, array_row, block_row, proc_row, space_row};
+    ghost use Rattle.dd_blocks.specs.Numbered.{IsNumberIn, array_row, block_row, proc_row, space_row, statement_row, task_row};
 
     /// The row of a space, by its number.
     #[tactic(auto, using(crate::proofs::NumberedLemmas::row_at))]
@@ -64,6 +64,24 @@ impl Plan {
         ensures { result.now ≡ block_row self.now number }
     {
         &self.blocks.as_slice()[number as usize - 1]
+    }
+
+    /// The row of a task, by its number.
+    #[tactic(auto, using(crate::proofs::NumberedLemmas::row_at))]
+    pub fn task(&self, number: u32) -> &TaskRow
+        requires { IsNumberIn self.now.tasks number }
+        ensures { result.now ≡ task_row self.now number }
+    {
+        &self.tasks.as_slice()[number as usize - 1]
+    }
+
+    /// The row of a statement, by its number.
+    #[tactic(auto, using(crate::proofs::NumberedLemmas::row_at))]
+    pub fn statement(&self, number: u32) -> &StatementRow
+        requires { IsNumberIn self.now.statements number }
+        ensures { result.now ≡ statement_row self.now number }
+    {
+        &self.statements.as_slice()[number as usize - 1]
     }
 
     /// The home of a block when a row of the statements begins: the space to which the last row above it moved
