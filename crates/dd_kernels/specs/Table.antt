@@ -1,6 +1,6 @@
 -- The kernel table: the lists of all accesses after a kernel, from those before it and their shapes.
--- A list that the kernel only reads stays (the law `read_lists_stay`). A list that it only writes counts for
--- nothing before it (the law `written_lists_count_for_nothing`).
+-- A list that the kernel only reads stays, and a list that it only writes counts for nothing before it. These are
+-- the clauses `stays` and `overwritten` of each call that runs a kernel (dd_apply).
 use Rattle.std.specs.Prelude.{ℤ, pos, ◌+ℤ◌, ◌-ℤ◌, ◌*ℤ◌, List, [], ◌∷◌, map, reverse, replicate, length}
 use Rattle.std.specs.Int.{w64, int_bit_xor, int_min, int_max}
 use Rattle.dd_kernels.specs.declared.kernel.Kernel.{Kernel}

@@ -32,7 +32,7 @@ stored world (access ∷ more) [] = world
 stored world (access ∷ more) (values ∷ lists) = stored (stored_one world access values) more lists
 
 -- what the kernel of a task makes of its accesses; one that the kernel only writes is gathered too, and counts
--- for nothing (the law `written_lists_count_for_nothing` of dd_kernels)
+-- for nothing (the clause `overwritten` of dd_apply's calls)
 abbrev pub computed : World → TaskRow → List (List ℤ)
 computed world task = results task.kernel task.scalar (shapes_in task.accesses) (map (gathered world) task.accesses)
 
