@@ -1,5 +1,4 @@
 pub mod Computing
-pub mod RowPlan
 mod RowExamples
 pub mod RowLegal
 pub mod RowWellFormed

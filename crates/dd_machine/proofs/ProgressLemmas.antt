@@ -1,11 +1,12 @@
 -- One more entry of the statements: it leaves the list of those that are left, and joins those that were made.
 use Rattle.std.proofs.Common.{map, ◌≡◌, ℕ, zero, suc, ◌+◌, ◌-◌, ◌<◌, ◌≤◌, Bool, true, false, ltb, List, [], ◌∷◌, ◌++◌, length, get_or, take, drop, Some, refl, ap, sym, ◌∙◌, subst, ⊎_elim, arith, append_assoc, append-nil, drop_of_length-le, take_all, drop-cons, take-suc}
 use Rattle.std.proofs.lemmas.Bool.{cases_Bool, ltb-true, ltb-false}
+use Rattle.std.proofs.lemmas.List.{take-append-drop}
 use Rattle.dd_blocks.specs.declared.plan.Plan.{Plan}
 use Rattle.dd_machine.specs.declared.entry.Entry.{Entry}
 use Rattle.dd_machine.specs.declared.event.Event.{Event}
 use Rattle.dd_machine.specs.declared.event.Event.TheVariants.{Rest}
-use Rattle.dd_machine.specs.Owed.{entries_from, entries_of, first_with, left, made, next_event, next_row, one_more, one_more_of}
+use Rattle.dd_machine.specs.Owed.{IsPosition, all_entries, entries_from, entries_of, first_with, left, made, next_event, next_row, one_more, one_more_of}
 use Rattle.dd_machine.specs.Orderly.{ComesNext}
 use Rattle.dd_machine.specs.States.{Progress}
 use Rattle.dd_machine.specs.Words.{rows}
@@ -124,6 +125,53 @@ makes_next plan p event next = ⊎_elim
     (λ (lt : ltb p.made (length (entries_of plan p.row)) ≡ true). rw lt (makes_in_row plan p event next (ltb-true p.made (length (entries_of plan p.row)) lt)))
     (λ (ge : ltb p.made (length (entries_of plan p.row)) ≡ false). rw ge (makes_in_next plan p event next (ltb-false p.made (length (entries_of plan p.row)) ge)))
     (cases_Bool (ltb p.made (length (entries_of plan p.row))))
+
+-- the next entry leads to a position again
+pub position_next : (plan : Plan) (p : Progress) (event : Event) → ComesNext plan p event → IsPosition plan p → IsPosition plan (one_more plan p)
+unfolding one_more
+position_next plan p event next at = ⊎_elim
+    (λ (lt : ltb p.made (length (entries_of plan p.row)) ≡ true). rw lt (
+    let h = ltb-true p.made (length (entries_of plan p.row)) lt in
+    record { row_within = at.row_within; made_within = omega (arith, h) }))
+    (λ (ge : ltb p.made (length (entries_of plan p.row)) ≡ false). rw ge (
+    let le = ltb-false p.made (length (entries_of plan p.row)) ge in
+    let none : left plan p ≡ entries_from plan (suc p.row) (rows plan - p.row) = ap (λ (xs : List Entry). xs ++ entries_from plan (suc p.row) (rows plan - p.row)) (drop_of_length-le (entries_of plan p.row) le) in
+    let s : Skips plan (suc p.row) (rows plan - p.row) (next_row plan (suc p.row) (rows plan - p.row)) = skips plan (suc p.row) (rows plan - p.row) event (subst (λ (xs : List Entry). next_event xs ≡ Some event) none next) in
+    let long = s.long in
+    let full = s.full in
+    let low = at.row_within in
+    record { row_within = omega (arith, long, low); made_within = omega (arith, full) }))
+    (cases_Bool (ltb p.made (length (entries_of plan p.row))))
+
+-- ---- all entries
+
+rows_split : (plan : Plan) (a n m : ℕ) → entries_from plan a (n + m) ≡ entries_from plan a n ++ entries_from plan (a + n) m
+rows_split plan a zero m =
+    let e : 0 + m ≡ m = omega arith in
+    let f : a ≡ a + 0 = omega arith in
+    ap (entries_from plan a) e ∙ ap (λ (k : ℕ). entries_from plan k m) f
+rows_split plan a (suc n) m =
+    let e : suc n + m ≡ suc (n + m) = omega arith in
+    let f : suc a + n ≡ a + suc n = omega arith in
+    ap (entries_from plan a) e
+    ∙ ap (λ (es : List Entry). entries_of plan a ++ es) (rows_split plan (suc a) n m ∙ ap (λ (k : ℕ). entries_from plan (suc a) n ++ entries_from plan k m) f)
+    ∙ sym (append_assoc (entries_of plan a) (entries_from plan (suc a) n) (entries_from plan (a + suc n) m))
+
+-- the entries that were made and those that are left are all of them
+pub made_and_left : (plan : Plan) (p : Progress) → p.row ≤ rows plan → made plan p ++ left plan p ≡ all_entries plan
+made_and_left plan p low =
+    let above = entries_from plan 1 (p.row - 1) in
+    let es = entries_of plan p.row in
+    let below = entries_from plan (suc p.row) (rows plan - p.row) in
+    let e : p.row + (rows plan - p.row) ≡ rows plan = omega (arith, low) in
+    let f : 1 + p.row ≡ suc p.row = omega arith in
+    append_assoc above (take p.made es) (drop p.made es ++ below)
+    ∙ ap (λ (xs : List Entry). above ++ xs) (sym (append_assoc (take p.made es) (drop p.made es) below) ∙ ap (λ (xs : List Entry). xs ++ below) (take-append-drop p.made es))
+    ∙ sym (append_assoc above es below)
+    ∙ ap (λ (xs : List Entry). xs ++ below) (row_done plan p.row)
+    ∙ ap (λ (k : ℕ). entries_from plan 1 p.row ++ entries_from plan k (rows plan - p.row)) (sym f)
+    ∙ sym (rows_split plan 1 p.row (rows plan - p.row))
+    ∙ ap (entries_from plan 1) e
 
 -- the next entry stands in a row
 pub record NextAt (plan : Plan) (p : Progress) (event : Event) : Type 0 where

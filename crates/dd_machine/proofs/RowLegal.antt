@@ -1,6 +1,7 @@
--- The worked script's journal is a whole legal run, entry by entry; changes of it aren't legal.
-use Rattle.std.proofs.Common.{◌≡◌, ◌≢◌, ◌⊎◌, ℕ, zero, suc, ◌<◌, Bool, true, false, eqb, [], ◌∷◌, Option, Some, None, refl, ap, sym, ◌∙◌, subst, inl, inr, ⊎_elim, arith}
+-- The worked script's journal is a whole legal run, entry by entry; in five changes of it the changed entry isn't legal.
+use Rattle.std.proofs.Common.{◌≡◌, ◌≢◌, ◌⊎◌, ℕ, zero, suc, ◌<◌, Bool, true, false, eqb, List, [], ◌∷◌, take, drop, Option, Some, None, refl, ap, sym, ◌∙◌, subst, inl, inr, ⊎_elim, arith}
 use Rattle.std.proofs.lemmas.Bool.{eqb-true, leb-true, or_cases}
+use Rattle.std.proofs.lemmas.List.{take-append-drop}
 use Rattle.dd_machine.specs.declared.copy_state.CopyState.{CopyState}
 use Rattle.dd_machine.specs.declared.copy_state.CopyState.TheVariants as state
 use Rattle.dd_machine.specs.declared.event.Event.TheVariants.{Ask, Rest, Put, Free, Begin, Hold, Pick, Make, Copy, Claim, Finish, Close}
@@ -8,15 +9,17 @@ use Rattle.dd_machine.specs.declared.task_state.TaskState.TheVariants.{Waiting, 
 use Rattle.dd_machine.specs.Effects.{after, fresh, given_back, copy_where}
 use Rattle.dd_machine.specs.Legal.{AllDone, May}
 use Rattle.dd_machine.specs.Needed.{is_current, is_needed, reads_current}
-use Rattle.dd_machine.specs.Runs.{IsLegalRun, IsWholeRun, start}
+use Rattle.dd_machine.specs.Runs.{IsLegalRun, start}
 use Rattle.dd_machine.specs.States as states
 use Rattle.dd_machine.specs.States.{State, at_copy}
 use Rattle.dd_machine.specs.Tests.{Has, is_any, is_idle, is_active, is_here, is_in_state, is_leaving, is_lent}
 use Rattle.dd_machine.specs.Words.{IsOf, IsOneOf, element, has_number, proc_of}
 use Rattle.dd_machine.proofs.ChangesLemmas.{at_copy_other, each_at_copy, at_copy_tells}
 use Rattle.dd_machine.proofs.Computing.{computing}
-use Rattle.dd_machine.proofs.RowPlan.{journal, two_spaces}
+use Rattle.dd_machine.specs.TwoSpaces.{AreRefused, IsWorked, journal, two_spaces}
+use Rattle.dd_machine.proofs.RunsLemmas.{run_parts}
 use Rattle.dd_machine.proofs.TestsLemmas.{any_finished, pair_same, pin_at, state_finished}
+use Rattle.dd_machine.specs.declared.entry.Entry.{Entry}
 
 abbrev s0 : State
 s0 = start two_spaces
@@ -292,16 +295,20 @@ m18 : May two_spaces s18 Rest
 unfolding computing
 m18 = record { due = λ out. refl; pinned = refl; here = pinned_by (λ s b. Has s18 s b is_here) 2 2 refl; current = λ r s b e. absurd cc; none_leaving = none16 is_leaving refl }
 
-legal_run : IsLegalRun two_spaces journal
+pub legal_run : IsLegalRun two_spaces journal
 unfolding computing
 legal_run = ((refl, m0), ((refl, m1), ((refl, m2), ((refl, m3), ((refl, m4), ((refl, m5), ((refl, m6), ((refl, m7), ((refl, m8), ((refl, m9), ((refl, m10), ((refl, m11), ((refl, m12), ((refl, m13), ((refl, m14), ((refl, m15), ((refl, m16), ((refl, m17), ((refl, m18), tt)))))))))))))))))))
 
--- it is a whole one
-pub whole_run : IsWholeRun two_spaces journal
+-- it is a whole one, and moves two elements
+pub worked : IsWorked
 unfolding computing
-whole_run = (legal_run, refl)
+worked = record { whole = (legal_run, refl); moved = refl }
 
 -- ---- changes that aren't legal
+
+-- what comes before them is a legal run
+first_of : (n : ℕ) → IsLegalRun two_spaces (take n journal)
+first_of n = (run_parts two_spaces (start two_spaces) (take n journal) (drop n journal) (subst (λ (es : List Entry). IsLegalRun two_spaces es) (sym (take-append-drop n journal)) legal_run)).0
 
 -- a Copy that counts the whole block
 four_copied : May two_spaces s12 (Copy 2 1 1 4) → ⊥
@@ -327,3 +334,13 @@ closed_early may = let e : 1 ≡ 2 = may.at_home 2 1 refl in omega (arith, e)
 picked : May two_spaces s3 (Pick 1 1) → ⊥
 unfolding computing
 picked may = let e : 4096 < 32 = may.over in omega (arith, e)
+
+pub refused : AreRefused
+unfolding computing
+refused = record {
+  whole_block = (first_of 12, four_copied);
+  held_early = (first_of 7, held_early);
+  not_copied = (first_of 12, claimed_early);
+  not_freed = (first_of 15, closed_early);
+  not_over = (first_of 3, picked);
+}

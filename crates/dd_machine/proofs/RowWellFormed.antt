@@ -23,7 +23,7 @@ use Rattle.dd_blocks.specs.Numbered.{IsNumberIn, array_row, block_row, no_array,
 use Rattle.dd_blocks.specs.Tasks.{IsDependency, IsShown, IsSoundTask}
 use Rattle.dd_blocks.specs.WellFormed.{FitsHomes, HasShortName, HasSmallEdges, IsSmallSpace, IsWellFormed, KeepsLimits, NamesRows, StatementNamesRows, TaskNamesRows}
 use Rattle.dd_meaning.proofs.SmallPlans.{access, column_view, span_of}
-use Rattle.dd_machine.proofs.RowPlan.{two_spaces}
+use Rattle.dd_machine.specs.TwoSpaces.{two_spaces}
 
 -- ---- lists, item by item
 

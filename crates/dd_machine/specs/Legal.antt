@@ -17,7 +17,7 @@ use Rattle.dd_machine.specs.Words.{IsOneOf, IsOf, spaces, blocks, tasks, limit, 
 abbrev pub workers : ℕ
 workers = 64
 
--- so many more bytes are within the limit of the space
+-- so many bytes fit into the space: with its resident bytes they are at most its limit
 abbrev pub Fits : Plan → State → ℕ → ℕ → Type 0
 Fits plan st space more = resident plan st space + more ≤ limit plan space
 

@@ -21,3 +21,4 @@ pub mod Roomy
 pub mod Carriage
 pub mod GoesOn
 pub mod Journal
+pub mod TwoSpaces

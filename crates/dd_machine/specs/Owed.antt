@@ -1,5 +1,5 @@
 -- The entries that the statements ask for, row by row, and which of them are still to be made.
-use Rattle.std.specs.Prelude.{ℕ, zero, suc, ◌+◌, ◌-◌, ◌*◌, nat_eq, nat_lt, not, cond, Bool, true, false, List, [], ◌∷◌, ◌++◌, map, filter, take, drop, length, option_map, Option, Some, None}
+use Rattle.std.specs.Prelude.{ℕ, zero, suc, ◌+◌, ◌-◌, ◌*◌, ◌≤◌, nat_eq, nat_lt, not, cond, Bool, true, false, List, [], ◌∷◌, ◌++◌, map, filter, take, drop, length, option_map, Option, Some, None}
 use Rattle.std.specs.List.{flat_map, range_with_len}
 use Rattle.dd_blocks.specs.declared.plan.Plan.{Plan}
 use Rattle.dd_blocks.specs.declared.what.What.{What}
@@ -71,6 +71,11 @@ made plan p = entries_from plan 1 (p.row - 1) ++ take p.made (entries_of plan p.
 
 abbrev pub left : Plan → Progress → List Entry
 left plan p = drop p.made (entries_of plan p.row) ++ entries_from plan (suc p.row) (rows plan - p.row)
+
+-- a position: the row is one of the Plan, or 0, and no more of its entries were made than it has
+pub record IsPosition (plan : Plan) (p : Progress) : Type 0 where
+  pub row_within : p.row ≤ rows plan
+  pub made_within : p.made ≤ length (entries_of plan p.row)
 
 -- the row where it has entries, or else a later one
 abbrev pub first_with : List Entry → ℕ → ℕ → ℕ

@@ -8,7 +8,7 @@ use Rattle.dd_machine.specs.declared.event.Event.{Event}
 use Rattle.dd_machine.specs.declared.event.Event.TheVariants.{Pick}
 use Rattle.dd_machine.specs.declared.task_state.TaskState.TheVariants.{Waiting}
 use Rattle.dd_machine.specs.Effects.{after}
-use Rattle.dd_machine.specs.Legal.{Legal}
+use Rattle.dd_machine.specs.Legal.{Legal, May}
 use Rattle.dd_machine.specs.Owed.{left}
 use Rattle.dd_machine.specs.States.{State}
 
@@ -45,6 +45,10 @@ state_of_run plan entries = state_after plan (start plan) entries
 
 abbrev pub IsWholeRun : Plan → List Entry → Type 0
 IsWholeRun plan entries = IsLegalRun plan entries × (left plan (state_of_run plan entries).progress ≡ [])
+
+-- the event is refused after these entries, on whatever line: they are a legal run, and it isn't legal after them
+abbrev pub IsRefused : Plan → List Entry → Event → Type 0
+IsRefused plan entries event = IsLegalRun plan entries × (May plan (state_of_run plan entries) event → ⊥)
 
 -- one of the entries spills a block
 abbrev pub is_pick : Event → Bool

@@ -25,7 +25,7 @@ pub record SoundLimits (plan : Plan) (st : State) : Type 0 where
   pub order_has : (s b : ℕ) → Has st s b is_here → has_number (st.orders s) b ≡ true
   -- the blocks of a Running task are Here
   pub running_here : (t b : ℕ) → is_running (st.tasks t) ≡ true → touches plan t b ≡ true → Has st (place plan t) b is_here
-  -- copies are lent in an open region alone, for the write-back to the pinned block
+  -- a copy is lent only while a region is open; one that is lent for the write-back is of the pinned block
   pub lends_open : (s b : ℕ) → Has st s b (is_lent (λ t. true)) → IsOpen st
   pub lends_pinned : (s b : ℕ) → Has st s b (is_lent (λ t. nat_eq t 0)) → IsLentToPin plan st s b
   -- a task that is Held or Running is of the open region, alone on its processor, and alone with its worker

@@ -1,5 +1,5 @@
 -- The sound state: what the entries that the statements made leave, and what stands outside a region.
-use Rattle.std.specs.Prelude.{◌≡◌, ◌≢◌, ℕ, true, false, Some, None}
+use Rattle.std.specs.Prelude.{◌≡◌, ◌≢◌, ℕ, ◌<◌, true, false, Some, None}
 use Rattle.dd_blocks.specs.declared.plan.Plan.{Plan}
 use Rattle.dd_blocks.specs.Numbered.{block_row, task_row}
 use Rattle.dd_blocks.specs.Elements.{Element}
@@ -9,7 +9,7 @@ use Rattle.dd_machine.specs.Bytes.{is_pinned}
 use Rattle.dd_machine.specs.Legal.{IsNext}
 use Rattle.dd_machine.specs.Made.{home_made, is_live, pin_made, was_begun, was_closed}
 use Rattle.dd_machine.specs.Needed.{is_current}
-use Rattle.dd_machine.specs.Owed.{made}
+use Rattle.dd_machine.specs.Owed.{IsPosition, made}
 use Rattle.dd_machine.specs.States.{State}
 use Rattle.dd_machine.specs.Tests.{Has, is_in_state, is_any, is_coming, is_idle, is_waiting}
 use Rattle.dd_machine.specs.Words.{IsOneOf, IsOf, tasks, touches, writes}
@@ -27,9 +27,12 @@ pub record SoundLives (plan : Plan) (st : State) : Type 0 where
   pub at_home : st.region ≡ None → (s b : ℕ) → Has st s b is_any → st.homes b ≡ s
   pub home_current : st.region ≡ None → (s b : ℕ) → Has st s b is_any → is_current plan st s b ≡ true
   pub home_idle : st.region ≡ None → st.pin ≡ None → (s b : ℕ) → Has st s b is_any → Has st s b is_idle
-  -- a task that doesn't wait is of a region that was begun, and every task of one that was closed is done
+  -- where the run stands is a position
+  pub position : IsPosition plan st.progress
+  -- a task that doesn't wait is of a region that was begun; every task of one that was closed is done, and of each before an open one
   pub begun : (t : ℕ) → is_waiting (st.tasks t) ≡ false → was_begun (made plan st.progress) (task_row plan t).region ≡ true
   pub closed_done : (t : ℕ) → IsOneOf (tasks plan) t → was_closed (made plan st.progress) (task_row plan t).region ≡ true → st.tasks t ≡ Done
+  pub earlier_done : (r t : ℕ) → st.region ≡ Some r → IsOneOf (tasks plan) t → (task_row plan t).region < r → st.tasks t ≡ Done
   -- the current version is 0, or that of a done task that writes the element
   pub current_done : (e : Element) → st.current e ≢ 0 → (st.tasks (st.current e) ≡ Done) × (writes plan (st.current e) e ≡ true)
   -- a copy that is coming is pinned

@@ -19,7 +19,7 @@ IsKnown plan st e v = (v ≤ st.current e) × (v ≢ 0 → (st.tasks v ≡ Done)
 abbrev pub HasCurrent : Plan → State → ℕ → ℕ → ℕ → Type 0
 HasCurrent plan st space block i = Has st space block is_any × (version st space block i ≡ st.current (element plan block i))
 
--- a task of the open region is Running, or done while another one of it isn't
+-- the task is Running, or it is Done while another task of the region isn't
 abbrev pub StillCounts : Plan → State → ℕ → ℕ → Type 0
 StillCounts plan st region t = (is_running (st.tasks t) ≡ true) ⊎ ((st.tasks t ≡ Done) × ((u : ℕ) × IsOf plan region u × (st.tasks u ≢ Done)))
 
@@ -35,6 +35,7 @@ pub record SoundVersions (plan : Plan) (st : State) : Type 0 where
   -- the source of an element has its current version, or every task is done and the home has it
   pub source_holds : (r b i : ℕ) → st.region ≡ Some r → Has st (st.homes b) b is_any → i < size plan b
       → HasCurrent plan st (source plan st b i) b i ⊎ (AllDone plan st r × HasCurrent plan st (st.homes b) b i)
-  -- what a task that is Running has read, or was done by one of an unfinished region, stays on its space until it is written over
+  -- each element that a task reads which is Running, or Done while another task of the region isn't: its space has a copy with
+  -- the version that the task needs, or the element was written over since
   pub reads_kept : (r t b i : ℕ) → st.region ≡ Some r → IsOf plan r t → StillCounts plan st r t → i < size plan b → reads plan t (element plan b i) ≡ true
       → Has st (place plan t) b is_any × ((version st (place plan t) b i ≡ needed_version plan (element plan b i) t) ⊎ (needed_version plan (element plan b i) t < st.current (element plan b i)))

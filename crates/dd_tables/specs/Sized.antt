@@ -18,8 +18,8 @@ pub record IsAtWork (plan : Plan) (states : ℕ → TaskState) (at_work : List �
   pub active : (t : ℕ) → is_active (states t) ≡ true → IsOneOf (tasks plan) t × (at_number at_work (proc_of plan t) ≡ Some t)
   pub there : (p t : ℕ) → at_number at_work p ≡ Some t → t ≢ 0 → (is_active (states t) ≡ true) × (proc_of plan t ≡ p)
 
--- the tables are those of the Plan: a row for each of its spaces, tasks, blocks and elements, in each order room for all
--- blocks, and who is at work and the next entry as the state has them
+-- the tables are those of the Plan: a row for each of its spaces, tasks, blocks and elements, in each order room for two blocks
+-- more than there are, and who is at work and the next entry as the state has them
 pub record IsSized (plan : Plan) (tables : Tables) : Type 0 where
   pub copies : IsTable (spaces plan) (blocks plan) tables.copies
   pub orders : length tables.orders.items ≡ spaces plan

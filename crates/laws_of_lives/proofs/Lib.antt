@@ -9,4 +9,5 @@ pub mod RegionsLemmas
 pub mod OrderlyLemmas
 pub mod ElementsLemmas
 pub mod HomesOfRows
+pub mod PositionKept
 pub mod LivesKept

@@ -1,5 +1,5 @@
 -- What the statements made is so after each event.
-use Rattle.std.proofs.Common.{refl}
+use Rattle.std.proofs.Common.{arith, refl}
 use Rattle.dd_machine.specs.Made.{home_made, is_live, pin_made, was_begun, was_closed}
 use Rattle.dd_machine.specs.Orderly.{IsOrderly}
 use Rattle.dd_blocks.specs.declared.plan.Plan.{Plan}
@@ -13,6 +13,7 @@ use Rattle.dd_machine.specs.SoundLives.{SoundLives}
 use Rattle.laws_of_lives.proofs.LiveKept.{keeps_home_is, keeps_home_live}
 use Rattle.laws_of_lives.proofs.PlaceKept.{keeps_open_begun, keeps_open_next, keeps_pin_is, keeps_touched_live}
 use Rattle.laws_of_lives.proofs.OutsideKept.{keeps_at_home, keeps_home_current, keeps_home_idle}
+use Rattle.laws_of_lives.proofs.PositionKept.{earlier, keeps_position}
 use Rattle.laws_of_lives.proofs.TasksKept.{keeps_begun, keeps_closed_done, keeps_coming_pinned, keeps_current_done}
 
 pub keeps_lives : (plan : Plan) (st : State) (event : Event) → IsOrderly plan → IsSound plan st → May plan st event → SoundLives plan (after plan st event)
@@ -26,8 +27,10 @@ keeps_lives plan st event order sound may = record {
   at_home = keeps_at_home plan st event sound may;
   home_current = keeps_home_current plan st event order sound may;
   home_idle = keeps_home_idle plan st event sound may;
+  position = keeps_position plan st event sound may;
   begun = keeps_begun plan st event sound may;
   closed_done = keeps_closed_done plan st event sound may;
+  earlier_done = earlier plan (after plan st event) order (keeps_open_next plan st event order sound may) (keeps_closed_done plan st event sound may);
   current_done = keeps_current_done plan st event sound may;
   coming_pinned = keeps_coming_pinned plan st event sound may;
 }
@@ -44,8 +47,10 @@ start_lives plan = record {
   at_home = λ out s b h. absurd cc;
   home_current = λ out s b h. absurd cc;
   home_idle = λ out pin s b h. absurd cc;
+  position = record { row_within = omega arith; made_within = omega arith };
   begun = λ t h. absurd cc;
   closed_done = λ t is h. absurd cc;
+  earlier_done = λ r t h. absurd cc;
   current_done = λ e some. absurd (some refl);
   coming_pinned = λ s b h. absurd cc;
 }

@@ -48,7 +48,7 @@ keeps_pin_is plan st (Claim task worker) sound may = sound.lives.pin_is
 keeps_pin_is plan st (Finish task) sound may = sound.lives.pin_is
 keeps_pin_is plan st (Back block source count) sound may = sound.lives.pin_is
 
-abbrev OpenNext : Plan → State → Type 0
+abbrev pub OpenNext : Plan → State → Type 0
 OpenNext plan st = (r : ℕ) → st.region ≡ Some r → IsNext plan st (Close r)
 
 next_at : (plan : Plan) (p q : Progress) (event : Event) → q ≡ p → next_event (left plan p) ≡ Some event → next_event (left plan q) ≡ Some event

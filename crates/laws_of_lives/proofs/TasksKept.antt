@@ -65,7 +65,7 @@ keeps_begun plan st (Lend task block source) sound may = sound.lives.begun
 keeps_begun plan st (Copy task block source count) sound may = sound.lives.begun
 keeps_begun plan st (Back block source count) sound may = sound.lives.begun
 
-abbrev ClosedDone : Plan → State → Type 0
+abbrev pub ClosedDone : Plan → State → Type 0
 ClosedDone plan st = (t : ℕ) → IsOneOf (tasks plan) t → was_closed (made plan st.progress) (task_row plan t).region ≡ true → st.tasks t ≡ Done
 
 pub or_false : (x : Bool) → (x || false) ≡ x

@@ -11,8 +11,9 @@ ghost use Rattle.dd_machine.specs.Carriage.{IsCarriage, Step, sends};
 ghost use Rattle.dd_machine.specs.Closed.{IsAtHome};
 ghost use Rattle.dd_machine.specs.GoesOn.{GoOn};
 ghost use Rattle.dd_machine.specs.Roomy.{AllRoomy};
-ghost use Rattle.dd_machine.specs.Runs.{IsLegalRun, IsWholeRun, has_pick, state_of_run};
+ghost use Rattle.dd_machine.specs.Runs.{IsLegalRun, has_pick, state_of_run};
 ghost use Rattle.dd_machine.specs.Sound.{IsSound};
+ghost use Rattle.dd_machine.specs.TwoSpaces.{AreRefused, IsWorked, two_spaces};
 ghost use Rattle.dd_machine.specs.Words.{IsOneOf, limit, spaces};
 
 /// After every legal run the state is sound.
@@ -61,7 +62,10 @@ pub fn goes_on()
     ensures { (plan : Plan) → IsWellFormed plan → GoOn plan }
 {}
 
-/// A well-formed Plan with a whole legal run exists, so what the laws assume can be met.
+/// A well-formed Plan with a whole legal run exists, so what the laws assume can be met: the worked script of two spaces, whose
+/// journal moves two elements. Five changes of the journal have an entry that isn't legal.
 pub fn some_whole_run()
-    ensures { (plan : Plan) × (entries : List Entry) × IsWellFormed plan × IsWholeRun plan entries }
+    ensures well_formed { IsWellFormed two_spaces }
+    ensures worked { IsWorked }
+    ensures refused { AreRefused }
 {}

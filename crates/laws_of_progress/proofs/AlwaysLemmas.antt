@@ -1,5 +1,5 @@
 -- In an open region some entry is legal.
-use Rattle.std.proofs.Common.{◌≡◌, ◌⊎◌, ℕ, zero, suc, ◌+◌, ◌<◌, ◌≤◌, true, false, eqb, List, [], ◌∷◌, length, Option, Some, None, refl, ap, sym, ◌∙◌, subst, inl, inr, ⊎_elim, arith}
+use Rattle.std.proofs.Common.{◌≡◌, ◌⊎◌, ℕ, zero, suc, ◌+◌, ◌<◌, ◌≤◌, true, false, eqb, length, Option, Some, None, refl, ap, sym, ◌∙◌, subst, inl, inr, ⊎_elim, arith}
 use Rattle.std.specs.Prelude.{is_some, not}
 use Rattle.std.specs.List.{list_any, range_with_len}
 use Rattle.std.proofs.lemmas.Bool.{and_from, cases_Bool, cases_eq, cases_lt, eq-eqb, false_from_ne_true, not_from_false, or_left}
@@ -7,7 +7,6 @@ use Rattle.dd_blocks.specs.declared.plan.Plan.{Plan}
 use Rattle.dd_blocks.specs.WellFormed.{IsWellFormed}
 use Rattle.dd_machine.specs.declared.copy_state.CopyState.{CopyState}
 use Rattle.dd_machine.specs.declared.copy_state.CopyState.TheVariants as state
-use Rattle.dd_machine.specs.declared.entry.Entry.{Entry}
 use Rattle.dd_machine.specs.declared.event.Event.{Event}
 use Rattle.dd_machine.specs.declared.event.Event.TheVariants.{Ask, Rest, Free, Pick, Gone, Call, Come, Lend, Copy, Finish, Back, Close}
 use Rattle.dd_machine.specs.declared.task_state.TaskState.{TaskState}
@@ -16,7 +15,6 @@ use Rattle.dd_machine.specs.Bytes.{beside_bytes, is_pinned, is_used, load, pin_b
 use Rattle.dd_machine.specs.GoesOn.{GoesOn, IsQuiet}
 use Rattle.dd_machine.specs.Legal.{AllDone, May}
 use Rattle.dd_machine.specs.Needed.{is_current, is_current_at, is_needed, needed, source, version}
-use Rattle.dd_machine.specs.Owed.{left, next_event, next_line}
 use Rattle.dd_machine.specs.Sound.{IsSound}
 use Rattle.dd_machine.specs.SoundVersions.{HasCurrent}
 use Rattle.dd_machine.specs.States as states
@@ -29,7 +27,7 @@ use Rattle.dd_machine.proofs.TotalsLemmas.{when_true}
 use Rattle.laws_of_limits.proofs.PinsKept.{out_or_in}
 use Rattle.dd_machine.specs.SoundProgress.{SoundProgress}
 use Rattle.laws_of_progress.proofs.LendsWhole.{to}
-use Rattle.laws_of_progress.proofs.QuietLemmas.{here_gives, leads_on}
+use Rattle.laws_of_progress.proofs.QuietLemmas.{here_gives, leads_on, region_line}
 use Rattle.laws_of_progress.proofs.QuietRoom.{fits_beside, fits_block, idle_out, no_lend, picks}
 use Rattle.laws_of_progress.proofs.SearchLemmas.{search, search_below, some_kept}
 use Rattle.dd_machine.proofs.RangesLemmas.{all_places}
@@ -322,7 +320,7 @@ pub can_go_on : (plan : Plan) (st : State) (r : ℕ) → IsWellFormed plan → I
 can_go_on plan st r well sound able open_is = ⊎_elim
     (λ (can : Can plan st). can)
     (λ (quiet : IsQuiet st). ⊎_elim
-    (λ (busy : AllDone plan st r → ⊥). let led = leads_on plan st r well sound able open_is quiet busy in (led.0, led.2))
+    (λ (busy : AllDone plan st r → ⊥). let some = leads_on plan st r well sound able open_is quiet busy in let led = some.led in (led.0, led.2))
     (λ (done : (t : ℕ) → IsOneOf (tasks plan) t → IsOf plan r t → st.tasks t ≡ Done). can_done plan st r sound able quiet open_is (λ t of. done t of.0 of))
     (search (tasks plan) (λ t. IsOf plan r t → st.tasks t ≡ Done) (λ t t_is. by t t_is (st.tasks t) refl)))
     (arrives plan st sound able)
@@ -339,12 +337,8 @@ can_go_on plan st r well sound able open_is = ⊎_elim
     by t t_is (Running w) is = not_done t (Running w) t_is is (λ e. cc)
     by t t_is Done is = inr (λ of. is)
 
-has_line : (entries : List Entry) (event : Event) → next_event entries ≡ Some event → (line : ℕ) × (next_line entries ≡ Some line)
-has_line [] event is = absurd cc
-has_line (entry ∷ entries) event is = (entry.line, refl)
-
 pub goes_on : (plan : Plan) (st : State) → IsWellFormed plan → IsSound plan st → SoundProgress plan st → GoesOn plan st
 goes_on plan st well sound able r open_is =
     let can = can_go_on plan st r well sound able open_is in
-    let line = has_line (left plan st.progress) (Close r) (sound.lives.open_next r open_is) in
+    let line = region_line plan st r sound open_is in
     (record { line = line.0; event = can.0 }, (line.1, can.1))

@@ -10,14 +10,16 @@ use Rattle.dd_blocks.specs.WellFormed.{IsWellFormed}
 use Rattle.dd_blocks.specs.Elements.{Element}
 use Rattle.dd_machine.specs.declared.copy_state.CopyState.{CopyState}
 use Rattle.dd_machine.specs.declared.copy_state.CopyState.TheVariants as state
+use Rattle.dd_machine.specs.declared.entry.Entry.{Entry}
 use Rattle.dd_machine.specs.declared.event.Event.{Event}
-use Rattle.dd_machine.specs.declared.event.Event.TheVariants.{Hold, Pick, Make, Call, Lend, Copy, Claim}
+use Rattle.dd_machine.specs.declared.event.Event.TheVariants.{Hold, Pick, Make, Call, Lend, Copy, Claim, Close}
 use Rattle.dd_machine.specs.declared.task_state.TaskState.{TaskState}
 use Rattle.dd_machine.specs.declared.task_state.TaskState.TheVariants.{Waiting, Held, Running, Done}
 use Rattle.dd_machine.specs.Bytes.{active_bytes, is_pinned, is_used, load, pin_bytes, pin_bytes_in, reserved, scratch_bytes, when}
-use Rattle.dd_machine.specs.GoesOn.{IsQuiet, LeadsOn, LeadsTasksOn}
+use Rattle.dd_machine.specs.GoesOn.{CanLeadOn, IsQuiet, LeadsOn, LeadsTasksOn}
 use Rattle.dd_machine.specs.Legal.{AllDone, Fits, May, held_too}
 use Rattle.dd_machine.specs.Needed.{is_current_at, is_needed, needed, own_space, source, version}
+use Rattle.dd_machine.specs.Owed.{left, next_event, next_line}
 use Rattle.dd_machine.specs.Sound.{IsSound}
 use Rattle.dd_machine.specs.SoundVersions.{HasCurrent}
 use Rattle.dd_machine.specs.States as states
@@ -33,9 +35,15 @@ use Rattle.laws_of_progress.proofs.QuietRoom.{arguments_beside, fits_beside, fit
 use Rattle.laws_of_progress.proofs.SearchLemmas.{any_some, search, search_below, search_up, some_kept, total_listed, total_only}
 use Rattle.dd_machine.proofs.TestsLemmas.{all_read}
 
--- an event that leads a task on
-abbrev pub Led : Plan → State → Type 0
-Led plan st = (event : Event) × LeadsOn event × May plan st event
+-- a legal event leads the task on
+abbrev pub Led : Plan → State → ℕ → Type 0
+Led plan st task = (event : Event) × LeadsOn plan st task event × May plan st event
+
+-- some task of the region can be led on
+pub record SomeLed (plan : Plan) (st : State) (r : ℕ) : Type 0 where
+  pub task : ℕ
+  pub of_region : IsOf plan r task
+  pub led : Led plan st task
 
 -- what is here can give to anybody
 pub here_gives : (task : ℕ) (c : Option states.Copy) → is_in_state is_here c ≡ true → is_in_state (is_here_or_lent task) c ≡ true
@@ -51,7 +59,7 @@ here_gives task (Some c) e = by c.state e
 
 -- ---- a task that is Held
 
-led_block : (plan : Plan) (st : State) (t b : ℕ) → IsWellFormed plan → IsSound plan st → IsQuiet st → st.tasks t ≡ Held → load plan st (place plan t) ≤ limit plan (place plan t) → touches plan t b ≡ true → Led plan st ⊎ Has st (place plan t) b is_here
+led_block : (plan : Plan) (st : State) (t b : ℕ) → IsWellFormed plan → IsSound plan st → IsQuiet st → st.tasks t ≡ Held → load plan st (place plan t) ≤ limit plan (place plan t) → touches plan t b ≡ true → Led plan st t ⊎ Has st (place plan t) b is_here
 led_block plan st t b well sound quiet held low touched =
     let s = place plan t in
     let on : is_active (st.tasks t) ≡ true = ap is_active held in
@@ -64,13 +72,13 @@ led_block plan st t b well sound quiet held low touched =
     (λ (away : is_in_state is_here (st.copies s b) ≡ false).
     let room = fits_block plan st s b quiet low b_is pinned away in
     ⊎_elim
-    (λ (any : is_in_state is_any (st.copies s b) ≡ true). inl (Call s b, tt, record { space_is = s_is; block_is = b_is; out = idle_out (st.copies s b) (quiet.copies s b any) away; pinned = pinned; fits = room }))
-    (λ (none : is_in_state is_any (st.copies s b) ≡ false). inl (Make t b, tt, record { held = held; touched = touched; absent = none_there (st.copies s b) none; fits = room }))
+    (λ (any : is_in_state is_any (st.copies s b) ≡ true). inl (Call s b, (held, (refl, touched)), record { space_is = s_is; block_is = b_is; out = idle_out (st.copies s b) (quiet.copies s b any) away; pinned = pinned; fits = room }))
+    (λ (none : is_in_state is_any (st.copies s b) ≡ false). inl (Make t b, (held, refl), record { held = held; touched = touched; absent = none_there (st.copies s b) none; fits = room }))
     (cases_Bool (is_in_state is_any (st.copies s b))))
     (cases_Bool (is_in_state is_here (st.copies s b)))
 
 led_place : (plan : Plan) (st : State) (k b i : ℕ) → IsWellFormed plan → IsSound plan st → SoundProgress plan st → IsQuiet st → st.tasks (suc k) ≡ Held → load plan st (place plan (suc k)) ≤ limit plan (place plan (suc k)) → touches plan (suc k) b ≡ true
-    → Has st (place plan (suc k)) b is_here → i < size plan b → reads plan (suc k) (element plan b i) ≡ true → Led plan st ⊎ (version st (place plan (suc k)) b i ≡ st.current (element plan b i))
+    → Has st (place plan (suc k)) b is_here → i < size plan b → reads plan (suc k) (element plan b i) ≡ true → Led plan st (suc k) ⊎ (version st (place plan (suc k)) b i ≡ st.current (element plan b i))
 led_place plan st k b i well sound able quiet held low touched here lt read = ⊎_elim
     (λ (now : version st s b i ≡ st.current e). inr now)
     (λ (stale : version st s b i ≡ st.current e → ⊥).
@@ -92,7 +100,7 @@ led_place plan st k b i well sound able quiet held low touched here lt read = �
     ⊎_elim
     (λ (there : is_in_state is_here (st.copies from b) ≡ true). inl (
       Copy (suc k) b from (length (needed plan st (suc k) b from)),
-      tt,
+      (held, (refl, there)),
       (
         omega arith,
         record {
@@ -108,7 +116,7 @@ led_place plan st k b i well sound able quiet held low touched here lt read = �
     ))
     (λ (away : is_in_state is_here (st.copies from b) ≡ false). inl (
       Lend (suc k) b from,
-      omega arith,
+      (held, refl),
       record {
         source_is = known.0;
         block_is = known.1;
@@ -135,23 +143,23 @@ led_place plan st k b i well sound able quiet held low touched here lt read = �
 no_worker : (st : State) (t w : ℕ) → IsQuiet st → st.tasks t ≡ Running w → ⊥
 no_worker st t w quiet is = let h : true ≡ false = sym (ap is_running is) ∙ quiet.tasks t in cc
 
-pub held_leads : (plan : Plan) (st : State) (r t : ℕ) → IsWellFormed plan → IsSound plan st → SoundProgress plan st → IsQuiet st → st.region ≡ Some r → st.tasks t ≡ Held → Led plan st
-held_leads plan st r zero well sound able quiet open_is held = let o = sound.limits.active_open zero (ap is_active held) in let h : 1 ≤ 0 = o.2.0.0 in absurd (omega (arith, h))
-held_leads plan st r (suc k) well sound able quiet open_is held =
+pub held_leads : (plan : Plan) (st : State) (t : ℕ) → IsWellFormed plan → IsSound plan st → SoundProgress plan st → IsQuiet st → st.tasks t ≡ Held → Led plan st t
+held_leads plan st zero well sound able quiet held = let o = sound.limits.active_open zero (ap is_active held) in let h : 1 ≤ 0 = o.2.0.0 in absurd (omega (arith, h))
+held_leads plan st (suc k) well sound able quiet held =
     let t = suc k in
     let s = place plan t in
     let on : is_active (st.tasks t) ≡ true = ap is_active held in
     let o = sound.limits.active_open t on in
     let s_is = place_known plan t well o.2.0 in
     ⊎_elim
-    (λ (over : limit plan s < load plan st s). let p = picks plan st s sound quiet s_is (able.reserved_within s s_is) over in (Pick s p.0, tt, p.1))
+    (λ (over : limit plan s < load plan st s). let p = picks plan st s sound quiet s_is (able.reserved_within s s_is) over in (Pick s p.0, (held, refl), p.1))
     (λ (low : load plan st s ≤ limit plan s). ⊎_elim
-    (λ (led : Led plan st). led)
+    (λ (led : Led plan st t). led)
     (λ (here : (b : ℕ) → IsOneOf (blocks plan) b → touches plan t b ≡ true → Has st s b is_here). ⊎_elim
-    (λ (led : Led plan st). led)
+    (λ (led : Led plan st t). led)
     (λ (now : (b : ℕ) → IsOneOf (blocks plan) b → touches plan t b ≡ true → (i : ℕ) → i < size plan b → reads plan t (element plan b i) ≡ true → version st s b i ≡ st.current (element plan b i)). (
       Claim t 1,
-      tt,
+      (held, refl),
       record {
         held = held;
         all_here = λ b touched. here b (touched_known plan t b well o.2.0 touched) touched;
@@ -164,11 +172,11 @@ held_leads plan st r (suc k) well sound able quiet open_is held =
     ))
     (search (blocks plan) (λ b. touches plan t b ≡ true → (i : ℕ) → i < size plan b → reads plan t (element plan b i) ≡ true → version st s b i ≡ st.current (element plan b i)) (λ b b_is. ⊎_elim
     (λ (touched : touches plan t b ≡ true). ⊎_elim
-    (λ (led : Led plan st). inl led)
+    (λ (led : Led plan st t). inl led)
     (λ (all : (i : ℕ) → i < size plan b → reads plan t (element plan b i) ≡ true → version st s b i ≡ st.current (element plan b i)). inr (λ _. all))
     (search_below (size plan b) (λ i. reads plan t (element plan b i) ≡ true → version st s b i ≡ st.current (element plan b i)) (λ i lt. ⊎_elim
     (λ (read : reads plan t (element plan b i) ≡ true). ⊎_elim
-    (λ (led : Led plan st). inl led)
+    (λ (led : Led plan st t). inl led)
     (λ (now : version st s b i ≡ st.current (element plan b i)). inr (λ _. now))
     (led_place plan st k b i well sound able quiet held low touched (here b b_is touched) lt read))
     (λ (not_read : reads plan t (element plan b i) ≡ false). inr (λ read. let h : true ≡ false = sym read ∙ not_read in cc))
@@ -177,7 +185,7 @@ held_leads plan st r (suc k) well sound able quiet open_is held =
     (cases_Bool (touches plan t b)))))
     (search (blocks plan) (λ b. touches plan t b ≡ true → Has st s b is_here) (λ b b_is. ⊎_elim
     (λ (touched : touches plan t b ≡ true). ⊎_elim
-    (λ (led : Led plan st). inl led)
+    (λ (led : Led plan st t). inl led)
     (λ (h : Has st s b is_here). inr (λ _. h))
     (led_block plan st t b well sound quiet held low touched))
     (λ (untouched : touches plan t b ≡ false). inr (λ touched. let h : true ≡ false = sym touched ∙ untouched in absurd cc))
@@ -250,10 +258,10 @@ contains_of (x ∷ xs) n has = ⊎_elim
     (λ (e : has_number xs n ≡ true). has_tail x n xs (contains_of xs n e))
     (or_cases (eqb x n) (has_number xs n) has)
 
-waiting_held : (plan : Plan) (st : State) (r t : ℕ) → IsWellFormed plan → IsSound plan st → st.region ≡ Some r → IsOf plan r t → st.tasks t ≡ Waiting → Calm st → ((j : ℕ) → 1 ≤ j → j < t → IsOf plan r j → st.tasks j ≡ Done) → Led plan st
+waiting_held : (plan : Plan) (st : State) (r t : ℕ) → IsWellFormed plan → IsSound plan st → st.region ≡ Some r → IsOf plan r t → st.tasks t ≡ Waiting → Calm st → ((j : ℕ) → 1 ≤ j → j < t → IsOf plan r j → st.tasks j ≡ Done) → Led plan st t
 waiting_held plan st r t well sound open_is of waiting calm below = (
   Hold t,
-  tt,
+  refl,
   record {
     task_is = of.0;
     of_region = open_is ∙ ap Some (sym of.1);
@@ -269,13 +277,20 @@ waiting_held plan st r t well sound open_is of waiting calm below = (
   },
 )
 
-pub leads_on : (plan : Plan) (st : State) (r : ℕ) → IsWellFormed plan → IsSound plan st → SoundProgress plan st → st.region ≡ Some r → IsQuiet st → (AllDone plan st r → ⊥) → Led plan st
+-- a Held task is of the open region
+held_of : (plan : Plan) (st : State) (r t : ℕ) → IsSound plan st → st.region ≡ Some r → st.tasks t ≡ Held → IsOf plan r t
+held_of plan st r t sound open_is held =
+    let o = sound.limits.active_open t (ap is_active held) in
+    let same : o.0 ≡ r = (let e : Some o.0 ≡ Some r = sym o.1 ∙ open_is in cc) in
+    subst (λ (q : ℕ). IsOf plan q t) same o.2
+
+pub leads_on : (plan : Plan) (st : State) (r : ℕ) → IsWellFormed plan → IsSound plan st → SoundProgress plan st → st.region ≡ Some r → IsQuiet st → (AllDone plan st r → ⊥) → SomeLed plan st r
 leads_on plan st r well sound able open_is quiet busy = ⊎_elim
-    (λ (led : Led plan st). led)
+    (λ (led : SomeLed plan st r). led)
     (λ (none : (t : ℕ) → IsOneOf (tasks plan) t → is_active (st.tasks t) ≡ false).
     let calm : Calm st = λ x. false_from_ne_true (is_active (st.tasks x)) (λ on. let o = sound.limits.active_open x on in let off = none x o.2.0 in let h : true ≡ false = sym on ∙ off in cc) in
     ⊎_elim
-    (λ (led : Led plan st). led)
+    (λ (led : SomeLed plan st r). led)
     (λ (done : (t : ℕ) → IsOneOf (tasks plan) t → IsOf plan r t → st.tasks t ≡ Done). absurd (busy (λ t of. done t of.0 of)))
     (search_up (tasks plan) (λ t. IsOf plan r t → st.tasks t ≡ Done) (λ t t_is below. ⊎_elim
     (λ (same : (task_row plan t).region ≡ r). next t (t_is, same) calm below (st.tasks t) refl)
@@ -283,17 +298,36 @@ leads_on plan st r well sound able open_is quiet busy = ⊎_elim
     (cases_eq (task_row plan t).region r))))
     (search (tasks plan) (λ t. is_active (st.tasks t) ≡ false) (λ t t_is. held t (st.tasks t) refl))
   where
-    held : (t : ℕ) (s : TaskState) → st.tasks t ≡ s → Led plan st ⊎ (is_active (st.tasks t) ≡ false)
+    held : (t : ℕ) (s : TaskState) → st.tasks t ≡ s → SomeLed plan st r ⊎ (is_active (st.tasks t) ≡ false)
     held t Waiting is = inr (ap is_active is)
-    held t Held is = inl (held_leads plan st r t well sound able quiet open_is is)
+    held t Held is = inl (record { task = t; of_region = held_of plan st r t sound open_is is; led = held_leads plan st t well sound able quiet is })
     held t (Running w) is = absurd (no_worker st t w quiet is)
     held t Done is = inr (ap is_active is)
 
-    next : (t : ℕ) → IsOf plan r t → Calm st → ((j : ℕ) → 1 ≤ j → j < t → IsOf plan r j → st.tasks j ≡ Done) → (s : TaskState) → st.tasks t ≡ s → Led plan st ⊎ (IsOf plan r t → st.tasks t ≡ Done)
-    next t of calm below Waiting is = inl (waiting_held plan st r t well sound open_is of is calm below)
+    next : (t : ℕ) → IsOf plan r t → Calm st → ((j : ℕ) → 1 ≤ j → j < t → IsOf plan r j → st.tasks j ≡ Done) → (s : TaskState) → st.tasks t ≡ s → SomeLed plan st r ⊎ (IsOf plan r t → st.tasks t ≡ Done)
+    next t of calm below Waiting is = inl (record { task = t; of_region = of; led = waiting_held plan st r t well sound open_is of is calm below })
     next t of calm below Held is = absurd (let h : true ≡ false = sym (ap is_active is) ∙ calm t in cc)
     next t of calm below (Running w) is = absurd (no_worker st t w quiet is)
     next t of calm below Done is = inr (λ _. is)
 
+has_line : (entries : List Entry) (event : Event) → next_event entries ≡ Some event → (line : ℕ) × (next_line entries ≡ Some line)
+has_line [] event is = absurd cc
+has_line (entry ∷ entries) event is = (entry.line, refl)
+
+-- in an open region there is a next line
+pub region_line : (plan : Plan) (st : State) (r : ℕ) → IsSound plan st → st.region ≡ Some r → (line : ℕ) × (next_line (left plan st.progress) ≡ Some line)
+region_line plan st r sound open_is = has_line (left plan st.progress) (Close r) (sound.lives.open_next r open_is)
+
+-- with it, an event is an entry
+with_line : (plan : Plan) (st : State) (r task : ℕ) → IsSound plan st → st.region ≡ Some r → Led plan st task → CanLeadOn plan st task
+with_line plan st r task sound open_is led =
+    let line = region_line plan st r sound open_is in
+    (record { line = line.0; event = led.0 }, led.1, (line.1, led.2))
+
 pub leads_tasks_on : (plan : Plan) (st : State) → IsWellFormed plan → IsSound plan st → SoundProgress plan st → LeadsTasksOn plan st
-leads_tasks_on plan st well sound able r open_is quiet busy = leads_on plan st r well sound able open_is quiet busy
+leads_tasks_on plan st well sound able = record {
+  each_held = λ r task open_is quiet held. with_line plan st r task sound open_is (held_leads plan st task well sound able quiet held);
+  some = λ r open_is quiet busy.
+      let led = leads_on plan st r well sound able open_is quiet busy in
+      (led.task, led.of_region, with_line plan st r led.task sound open_is led.led);
+}
