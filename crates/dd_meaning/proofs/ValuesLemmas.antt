@@ -188,3 +188,13 @@ pub first_value : (plan : Plan) (e : Element) → IsNumberIn plan.arrays e.array
 first_value plan e named within =
     ap (λ (l : List ℤ). get_or l e.pos (pos 0)) (numbered_map filled plan.arrays e.array named)
     ∙ get_or-map-range_with_len (filled_at (array_row plan e.array).fill) 0 (element_count (array_row plan e.array).grid) e.pos e.pos (pos 0) within (omega arith)
+
+-- Of a well-formed Plan: an element that no task from j + 1 to k writes has one value after j tasks and after k.
+pub unwritten_stays : (plan : Plan) (e : Element) (j k : ℕ) → IsWellFormed plan → IsNumberIn plan.arrays e.array
+    → e.pos < element_count (array_row plan e.array).grid → j ≤ k → k ≤ length plan.tasks
+    → ((t : ℕ) → j < t → t ≤ k → task_writes (task_row plan t) e ≡ false) → value_at plan k e ≡ value_at plan j e
+unwritten_stays plan e j k well named within le last none =
+    let same : j + (k - j) ≡ k = omega (arith, le) in
+    ap (λ (n : ℕ). value_at plan n e) (sym same)
+    ∙ value_kept plan e j (k - j) (names_arrays plan well) (in_first_world plan e named within) (omega (arith, le, last))
+    (λ t low high. none t low (omega (arith, le, high)))

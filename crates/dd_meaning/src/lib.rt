@@ -10,7 +10,7 @@
 //! (`specs/Versions.antt`), in which space that version is made, and where it is wanted (`specs/Moves.antt`).
 //!
 //! The value of one element after so many tasks (`specs/Values.antt`) is what the last of them that writes it stored
-//! (`specs/Written.antt`): `proofs/ValuesLemmas.antt` shows that it stays where no task writes the element.
+//! (`specs/Written.antt`), and stays where no task writes the element ([`laws::unwritten_values_stay`]).
 //!
 //! The crate holds these definitions and, in `proofs/`, lemmas and examples of them. Its only calls are its [`laws`].
 #![tactic(auto)]
