@@ -1,5 +1,7 @@
 -- Runs of sorted numbers.
-use Rattle.std.proofs.Common.{◌≡◌, ◌≢◌, ℕ, ◌+◌, ◌-◌, ◌^◌, ◌<◌, ◌≤◌, List, [], ◌++◌, length, get_or, sym, ap, ◌∙◌, subst, ⊎_elim, ◌⊎◌, arith}
+use Rattle.std.proofs.Common.{◌≡◌, ◌≢◌, ℕ, ◌+◌, ◌-◌, ◌^◌, ◌<◌, ◌≤◌, List, [], ◌++◌, length, get_or, take, drop, sym, ap, ◌∙◌, subst, ⊎_elim, ◌⊎◌, arith}
+use Rattle.std.proofs.Math.Seq.{drop-append_seam, take-length}
+use Rattle.std.proofs.lemmas.List.{length-drop}
 use Rattle.std.specs.List.{All, Contains, range_with_len}
 use Rattle.std.specs.List.Sorted.{IsStrictlyIncreasing}
 use Rattle.std.proofs.lemmas.Bool.{cases_lt, cases_order}
@@ -9,7 +11,7 @@ use Rattle.dd_spans.specs.Numbers.{numbers_from}
 use Rattle.dd_spans.specs.NextRun.{IsNextRun}
 use Rattle.dd_spans.proofs.RisingLemmas.{rises_append, rises_by_places}
 use Rattle.dd_spans.proofs.MembersLemmas.{all_from_contains, contains_none, place_of, same_from_contains}
-use Rattle.dd_spans.proofs.NumbersLemmas.{contains_from, from_contains, from_rises}
+use Rattle.dd_spans.proofs.NumbersLemmas.{contains_from, from_contains, from_rises, from_zero}
 
 -- what begins a list of sorted numbers, as a loop over its places has it
 pub record IsRun (ns : List ℕ) (count : ℕ) : Type 0 where
@@ -17,6 +19,16 @@ pub record IsRun (ns : List ℕ) (count : ℕ) : Type 0 where
   pub within : count ≤ length ns
   pub run : (k : ℕ) → k < count → get_or ns k 0 ≡ get_or ns 0 0 + k
   pub ends : count < length ns → get_or ns count 0 ≢ get_or ns 0 0 + count
+
+-- numbers that rise to the last without a gap follow each other
+pub run_of_all : (ns : List ℕ) → IsStrictlyIncreasing ns → 0 < length ns → get_or ns (length ns - 1) 0 ≡ get_or ns 0 0 + (length ns - 1)
+    → (k : ℕ) → k < length ns → get_or ns k 0 ≡ get_or ns 0 0 + k
+run_of_all ns rises some last k lt =
+    let low : get_or ns 0 0 + k ≤ get_or ns (0 + k) 0 = rises_by_places ns rises 0 k (omega arith) in
+    let high : get_or ns k 0 + (length ns - 1 - k) ≤ get_or ns (k + (length ns - 1 - k)) 0 = rises_by_places ns rises k (length ns - 1 - k) (omega arith) in
+    let zero_at : get_or ns (0 + k) 0 ≡ get_or ns k 0 = ap (λ (i : ℕ). get_or ns i 0) (omega arith) in
+    let last_at : get_or ns (k + (length ns - 1 - k)) 0 ≡ get_or ns (length ns - 1) 0 = ap (λ (i : ℕ). get_or ns i 0) (omega arith) in
+    omega (arith, low, high, zero_at, last_at, last)
 
 run_ends : (ns : List ℕ) (count : ℕ) → IsStrictlyIncreasing ns → IsRun ns count → ¬ Contains ns (get_or ns 0 0 + count)
 run_ends ns count rises run has =
@@ -115,6 +127,17 @@ left_of_run ns from first count rises run =
     let both = contains_from (first + count) ns n behind in
     from_contains from ns n both.0 (omega (arith, both.1, run.reached)))
     (Contains-append_cases range rest n has))
+
+-- the same of all numbers, where what is left is a slice
+pub rest_of_run : (ns left : List ℕ) (first count : ℕ) → IsStrictlyIncreasing ns → left ≡ ns → IsNextRun ns 0 first count
+    → ns ≡ range_with_len first count ++ take (length left - count) (drop count left)
+rest_of_run ns left first count rises same run =
+    let range = range_with_len first count in
+    let rest = numbers_from (first + count) ns in
+    let whole : ns ≡ range ++ rest = sym (from_zero ns) ∙ left_of_run ns 0 first count rises run in
+    let gone : drop count ns ≡ rest = ap (drop count) whole ∙ ap (λ (n : ℕ). drop n (range ++ rest)) (sym (length-range_with_len first count)) ∙ drop-append_seam range rest in
+    let all : take (length ns - count) (drop count ns) ≡ drop count ns = ap (λ (n : ℕ). take n (drop count ns)) (sym (length-drop count ns)) ∙ take-length (drop count ns) in
+    subst (λ (l : List ℕ). ns ≡ range ++ take (length l - count) (drop count l)) (sym same) (whole ∙ ap (λ (l : List ℕ). range ++ l) (sym gone ∙ sym all))
 
 -- nothing is left where no number is so large
 pub none_left : (ns : List ℕ) (from : ℕ) → numbers_from from ns ≡ [] → All (λ n. n < from) ns

@@ -9,3 +9,7 @@ pub record PlaceMap : Type 0 where
 -- the list with a value in `count` places from `first` on
 abbrev pub with_run : ℕ → ℕ → ℕ → List ℕ → List ℕ
 with_run first count value ns = take first ns ++ replicate count value ++ drop (first + count) ns
+
+-- the list with the values of another in `count` places from `first` on
+abbrev pub with_copied : ℕ → ℕ → List ℕ → List ℕ → List ℕ
+with_copied first count other ns = take first ns ++ take count (drop first other) ++ drop (first + count) ns

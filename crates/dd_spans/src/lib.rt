@@ -2,32 +2,28 @@
 //!
 //! ```text
 //! let held = Runs::of_list(alloc, &[7, 1, 2, 3])?;
-//! let wanted = Runs::of_list(alloc, &[2, 3, 4, 7])?;
-//! let missing = wanted.minus(&held)?;
+//! let missing = Runs::of_list(alloc, &[2, 3, 4, 7])?.minus(&held)?;
 //!
 //! let mut versions = RunMap::new(alloc, 6, 0)?;
 //! versions.reserve(2)?;
 //! versions.set_run(1, 3, 5);
 //! ```
 //!
-//! `held` is 1, 2, 3, 7, and `missing` is 4 alone. `held.next_run(2)` is `Some((2, 2))`, since 2 and 3 follow each other
-//! from 2 on, and `held.next_run(4)` is `Some((7, 1))`: so whoever goes on with the end of each run goes through all. The
-//! map is 0, 5, 5, 5, 0, 0, and `versions.same_until(1)` is 4.
+//! `held` is 1, 2, 3, 7, and its runs are 1 to 3 and 7: `held.cursor().next_run()` is `Some((1, 3))`, then `Some((7, 1))`.
+//! `missing` is 4. The map is 0, 5, 5, 5, 0, 0, and its run at 1 ends below 4, or earlier where less is asked: `run_at(1, 3)` is `(5, 3)`.
 //!
-//! [`Runs`] is seen as its sorted list of numbers, with the facts that they rise and are below 2^64 - 1. [`RunMap`] is seen
-//! as the list of its values, and its spare: how many runs more it has memory for. A run that is set can split another
-//! in three, so setting one uses up to two of them, and takes no memory: [`RunMap::reserve`] takes it beforehand.
+//! [`Runs`] and a [`Cursor`] are seen as sorted numbers, a [`RunMap`] as the list of its values and its spare: how many runs
+//! more it has memory for. A run that is set can split another in three, so it uses up to two of the spare and takes no
+//! memory, and one that is copied up to two for each place: [`RunMap::reserve`] takes it beforehand.
 //!
-//! Sorting n numbers costs n log n, and writing down those of a run n. `meet`, `minus` and `union` go through both lists
-//! once. `has` and the start of `next_run` are binary searches, and the run is counted number by number. `set_run` writes each
-//! place of the run, and `same_until` reads each.
+//! Sorting n numbers costs n log n. `meet`, `minus` and `union` go through both lists once, a cursor through one. `has` and the
+//! start of `Runs::next_run` are binary searches. `set_run` and `copy_run` write each place of the run, and `run_at` reads each.
 //!
-//! Inside, [`Runs`] keeps a vector of its numbers, and [`RunMap`] a vector with one value a place, and its spare as a count,
-//! so that `reserve` takes nothing. `sets` makes and merges sorted lists, `cut` has where one is cut at a number, and `run`
-//! how far its numbers follow each other. What holds of sorted numbers as a whole stands in [`laws`]. The definition of
-//! `specs/Kept.antt` is cited by private contracts alone.
+//! Inside, [`Runs`] keeps a vector of its numbers, a [`RunMap`] one value a place. `sets` makes and merges sorted lists, `cut` has
+//! where one is cut at a number, `run` how far its numbers follow each other; [`laws`] tells what holds of sorted numbers.
 #![tactic(auto)]
 
+mod cursor;
 mod cut;
 pub mod laws;
 mod run;
@@ -35,5 +31,6 @@ mod run_map;
 mod runs;
 mod sets;
 
+pub use cursor::Cursor;
 pub use run_map::RunMap;
 pub use runs::Runs;

@@ -1,7 +1,7 @@
 //! A small number for each place.
-ghost use Rattle.std.specs.Prelude.{◌≡◌, ◌≢◌, ℕ, ◌+◌, ◌<◌, ◌≤◌, length, replicate, slice_index, slice_set, nat_le, nat_lt, ◌&&◌, if◌then◌else◌, IfOk, OnOk};
+ghost use Rattle.std.specs.Prelude.{◌≡◌, ◌≢◌, ℕ, ◌+◌, ◌*◌, ◌<◌, ◌≤◌, length, replicate, slice_index, slice_set, nat_le, nat_lt, ◌&&◌, if◌then◌else◌, IfOk, OnOk};
 ghost use Rattle.std.specs.List.{AllWithin};
-ghost use Rattle.dd_spans.specs.PlaceMap.{with_run};
+ghost use Rattle.dd_spans.specs.PlaceMap.{with_copied, with_run};
 
 use std::alloc::{AllocError, Global};
 use std::marker::Model;
@@ -82,6 +82,26 @@ impl RunMap {
         self.len()
     }
 
+    /// The value of a place, and the first place above it that has another value, or `end`. It reads no place from `end` on, so
+    /// whoever goes on with that place goes through the runs below `end`, and each place is read once.
+    pub fn run_at(&self, place: u64, end: u64) -> (u32, u64)
+        requires below { place < end }
+        requires within { end ≤ length self.now.list }
+        ensures value { result.0 ≡ slice_index self.now.list place }
+        ensures above { place < result.1 }
+        ensures within { result.1 ≤ end }
+        ensures same { AllWithin (λ value. value ≡ result.0) self.now.list place result.1 }
+        ensures other { result.1 < end → slice_index self.now.list result.1 ≢ result.0 }
+    {
+        let value = self.get(place);
+        for (count, other) in self.values[place as usize..end as usize].iter().enumerate() {
+            if *other != value {
+                return (value, place + count as u64);
+            }
+        }
+        (value, end)
+    }
+
     /// Makes the spare at least so many runs.
     ///
     /// # Errors
@@ -116,5 +136,22 @@ impl RunMap {
     {
         self.values[first as usize..(first + count) as usize].fill(value);
         self.spare -= 2;
+    }
+
+    /// Gives `count` places from `first` on the values that another map has there. It takes no memory: it uses up to two of the
+    /// spare runs for each place.
+    pub fn copy_run(&mut self, other: &RunMap, first: u64, count: u64)
+        requires within { first + count ≤ length self.old.list }
+        requires other { first + count ≤ length other.now.list }
+        requires spare { 2 * count ≤ self.old.spare }
+        ensures list { self.new.list ≡ with_copied first count other.now.list self.old.list }
+        ensures len { length self.new.list ≡ length self.old.list }
+        ensures places { (place : ℕ) → slice_index self.new.list place
+            ≡ (if nat_le first place && nat_lt place (first + count) then slice_index other.now.list place else slice_index self.old.list place) }
+        ensures spare { self.old.spare ≤ self.new.spare + 2 * count }
+    {
+        let theirs = &other.values[first as usize..(first + count) as usize];
+        self.values[first as usize..(first + count) as usize].copy_from_slice(theirs);
+        self.spare -= 2 * count;
     }
 }

@@ -6,6 +6,7 @@ ghost use Rattle.dd_spans.specs.Numbers.{is_among, numbers_from, rising_numbers}
 ghost use Rattle.dd_spans.specs.NextRun.{IsNextRun};
 ghost use Rattle.dd_spans.specs.Kept.{is_kept};
 
+use crate::cursor::Cursor;
 use crate::cut::search_from;
 use crate::run::run_len;
 use crate::sets::{following, joined, kept, rising};
@@ -85,6 +86,13 @@ impl Runs {
         let left = self.left_from(from);
         let first = *left.first()?;
         Some((first, run_len(left) as u64))
+    }
+
+    /// A cursor before the first of them, for one who goes through their runs.
+    pub fn cursor(&self) -> Cursor<'_>
+        ensures { result ≡ self.now }
+    {
+        Cursor::new(&self.numbers)
     }
 
     /// The numbers that are in both.
