@@ -9,7 +9,7 @@ ghost use Rattle.dd_blocks.specs.WellFormed.{IsWellFormed};
 ghost use Rattle.dd_history.specs.Currents.{AreVersions, IsFinished, is_lacking};
 ghost use Rattle.dd_meaning.specs.Moves.{source_of};
 
-use crate::rows::{array_of, array_row, element_count, home_in_region, source_in};
+use crate::rows::{array_of, element_count, home_in_region, source_in};
 use crate::sought::Sought;
 use crate::views::set_written;
 use dd_blocks::Plan;
@@ -96,7 +96,7 @@ impl Cur {
             → result ≡ source_of plan.now region e (slice_index self.now.list element) }
     {
         let array = array_of(plan, element);
-        let row = array_row(plan, array);
+        let row = plan.array(array);
         let block = row.first_block + row.grid.block_of(element - row.first_element) as u32;
         source_in(
             plan,

@@ -4,33 +4,12 @@ ghost use Rattle.std.specs.List.{list_any};
 ghost use Rattle.dd_blocks.specs.Grids.{element_count};
 ghost use Rattle.dd_blocks.specs.Homes.{home_in_region, row_of_region, runs_region};
 ghost use Rattle.dd_blocks.specs.Layout.{elements_in};
-ghost use Rattle.dd_blocks.specs.Numbered.{IsNumberIn, array_row, block_row, proc_row, task_row};
+ghost use Rattle.dd_blocks.specs.Numbered.{IsNumberIn, array_row};
 ghost use Rattle.dd_blocks.specs.WellFormed.{IsWellFormed};
 ghost use Rattle.dd_meaning.specs.Moves.{place_of};
 ghost use Rattle.dd_meaning.specs.Versions.{tasks_in};
 
-use dd_blocks::{ArrayRow, BlockRow, Plan, TaskRow, What};
-
-pub(crate) fn array_row(plan: &Plan, array: u32) -> ArrayRow
-    requires { IsNumberIn plan.now.arrays array }
-    ensures { result ≡ array_row plan.now array }
-{
-    plan.arrays.as_slice()[array as usize - 1]
-}
-
-pub(crate) fn block_row(plan: &Plan, block: u32) -> BlockRow
-    requires { IsNumberIn plan.now.blocks block }
-    ensures { result ≡ block_row plan.now block }
-{
-    plan.blocks.as_slice()[block as usize - 1]
-}
-
-pub(crate) fn task_row(plan: &Plan, task: u32) -> &TaskRow
-    requires { IsNumberIn plan.now.tasks task }
-    ensures { result.now ≡ task_row plan.now task }
-{
-    &plan.tasks.as_slice()[task as usize - 1]
-}
+use dd_blocks::{Plan, What};
 
 /// The space in which a task runs.
 fn place_of(plan: &Plan, task: u32) -> u32
@@ -38,8 +17,7 @@ fn place_of(plan: &Plan, task: u32) -> u32
     requires task { IsNumberIn plan.now.tasks task }
     ensures { result ≡ place_of plan.now task }
 {
-    let proc = task_row(plan, task).proc;
-    plan.procs.as_slice()[proc as usize - 1].space
+    plan.proc(plan.task(task).proc).space
 }
 
 /// How many elements all arrays have.
@@ -62,7 +40,7 @@ pub(crate) fn array_of(plan: &Plan, element: u64) -> u32
     ensures within { element - (array_row plan.now result).first_element < element_count (array_row plan.now result).grid }
 {
     let mut array = plan.arrays.as_slice().len() as u32;
-    while array_row(plan, array).first_element > element {
+    while plan.array(array).first_element > element {
         array -= 1;
     }
     array
@@ -109,7 +87,7 @@ pub(crate) fn source_in(plan: &Plan, region: u32, home: u32, version: u32) -> u3
     requires version { version ≤ length plan.now.tasks }
     ensures { result ≡ cond (list_any (λ t. nat_eq t version) (tasks_in plan.now region)) (place_of plan.now version) home }
 {
-    if version != 0 && task_row(plan, version).region == region {
+    if version != 0 && plan.task(version).region == region {
         place_of(plan, version)
     } else {
         home

@@ -5,7 +5,7 @@ ghost use Rattle.dd_blocks.specs.Numbered.{block_row};
 ghost use Rattle.dd_history.specs.Asked.{IsAsked};
 ghost use Rattle.dd_history.specs.Currents.{is_lacking};
 
-use crate::rows::{array_row, block_row, source_in};
+use crate::rows::source_in;
 use dd_blocks::Plan;
 use dd_spans::{RunMap, Runs};
 use std::alloc::AllocError;
@@ -33,7 +33,7 @@ impl Sought<'_> {
         requires place { place < (block_row self.now.plan.now self.now.block).size }
         ensures { result ≡ is_lacking self.now.plan.now self.now.region self.now.block self.now.versions.now.list self.now.held.now.list self.now.from place }
     {
-        let row = array_row(self.plan, block_row(self.plan, self.block).array);
+        let row = self.plan.array(self.plan.block(self.block).array);
         let within = u64::from(self.block - row.first_block);
         let version = self
             .versions

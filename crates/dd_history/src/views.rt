@@ -1,6 +1,5 @@
 //! The elements that a task writes are set.
 ghost use Rattle.std.specs.Prelude.{◌≡◌, ◌+◌, ◌^◌, ◌<◌, length, All};
-ghost use Rattle.dd_blocks.specs.Elements.{writes};
 ghost use Rattle.dd_blocks.specs.Layout.{elements_in};
 ghost use Rattle.dd_blocks.specs.Numbered.{IsNumberIn};
 ghost use Rattle.dd_blocks.specs.WellFormed.{IsWellFormed};
@@ -9,9 +8,7 @@ ghost use Rattle.dd_history.specs.Sets.{IsAccess, IsSetWhere, is_at, writes_at};
 ghost use Rattle.dd_views.specs.IndexList.{index_list};
 ghost use Rattle.dd_views.specs.Views.{IsView};
 
-use crate::rows::{array_row, task_row};
 use dd_blocks::{AccessRow, Plan};
-use dd_kernels::Mode;
 use dd_spans::RunMap;
 use dd_views::View;
 
@@ -24,7 +21,7 @@ pub(crate) fn set_written(versions: &mut RunMap, plan: &Plan, task: u32)
     ensures versions { AreVersions plan.now versions.new.list }
     ensures spare { versions.new.spare ≡ versions.old.spare }
 {
-    for access in task_row(plan, task).accesses.as_slice() {
+    for access in plan.task(task).accesses.as_slice() {
         set_access(versions, plan, access, task);
     }
 }
@@ -37,17 +34,10 @@ fn set_access(versions: &mut RunMap, plan: &Plan, access: &AccessRow, task: u32)
     ensures set { IsSetWhere (λ q. writes_at plan.now q access.now) task versions.old.list versions.new.list }
     ensures spare { versions.new.spare ≡ versions.old.spare }
 {
-    if is_written(access.mode) {
-        let first = array_row(plan, access.view.array).first_element;
+    if access.writes() {
+        let first = plan.array(access.view.array).first_element;
         set_view(versions, first, &access.view, task);
     }
-}
-
-/// Whether a task writes what it uses so.
-fn is_written(mode: Mode) -> bool
-    ensures { result ≡ writes mode }
-{
-    matches!(mode, Mode::Write | Mode::Both)
 }
 
 /// Sets the elements of a view, where `first` elements stand before its array.

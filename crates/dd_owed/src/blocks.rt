@@ -3,27 +3,11 @@ ghost use Rattle.std.specs.Prelude.{◌≡◌, ◌-◌, ◌<◌, slice_get, take
 ghost use Rattle.std.specs.List.{last_or};
 ghost use Rattle.dd_blocks.specs.Homes.{space_moved_to, spaces_of};
 ghost use Rattle.dd_blocks.specs.Limits.{blocks_limit};
-ghost use Rattle.dd_blocks.specs.Numbered.{IsNumberIn, array_row, block_row};
+ghost use Rattle.dd_blocks.specs.Numbered.{IsNumberIn};
 ghost use Rattle.dd_blocks.specs.WellFormed.{IsWellFormed};
 ghost use Rattle.dd_machine.specs.Owed.{blocks_by_rows, blocks_elsewhere, blocks_of};
 
-use dd_blocks::{ArrayRow, Plan, StatementRow, What};
-
-/// The row of an array.
-fn array_row(plan: &Plan, array: u32) -> ArrayRow
-    requires { IsNumberIn plan.now.arrays array }
-    ensures { result ≡ array_row plan.now array }
-{
-    plan.arrays.as_slice()[array as usize - 1]
-}
-
-/// The home of a block when its array is made.
-fn first_home(plan: &Plan, block: u32) -> u32
-    requires { IsNumberIn plan.now.blocks block }
-    ensures { result ≡ (block_row plan.now block).home }
-{
-    plan.blocks.as_slice()[block as usize - 1].home
-}
+use dd_blocks::{Plan, StatementRow, What};
 
 /// The space to which a statement moves an array.
 fn moves(what: &What, array: u32) -> Option<u32>
@@ -65,7 +49,7 @@ pub(crate) fn block_at(plan: &Plan, array: u32, i: u32) -> Option<u32>
     ensures known { IfSome result (IsNumberIn plan.now.blocks) }
     ensures few { IfSome result (λ _. i < blocks_limit) }
 {
-    let row = array_row(plan, array);
+    let row = plan.array(array);
     if u64::from(i) < row.grid.blocks() {
         Some(row.first_block + i)
     } else {
@@ -81,7 +65,7 @@ pub(crate) fn block_by_rows_at(plan: &Plan, array: u32, i: u32) -> Option<u32>
     ensures known { IfSome result (IsNumberIn plan.now.blocks) }
     ensures few { IfSome result (λ _. i < blocks_limit) }
 {
-    let row = array_row(plan, array);
+    let row = plan.array(array);
     let high = row.grid.rows.div_ceil(row.grid.brows);
     let wide = row.grid.cols.div_ceil(row.grid.bcols);
     if i / wide < high {
@@ -106,12 +90,12 @@ pub(crate) fn block_elsewhere_at(
     ensures known { IfSome result (IsNumberIn plan.now.blocks) }
     ensures few { IfSome result (λ _. i < blocks_limit) }
 {
-    let found = array_row(plan, array);
+    let found = plan.array(array);
     let moved = moved_to(plan, row, array);
     let mut left = i;
     for j in 0..found.grid.blocks() {
         let block = found.first_block + j as u32;
-        let home = moved.unwrap_or(first_home(plan, block));
+        let home = moved.unwrap_or(plan.block(block).home);
         if home != space {
             if left == 0 {
                 return Some(block);

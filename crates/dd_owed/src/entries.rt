@@ -43,9 +43,8 @@ fn first_below(plan: &Plan, row: u32) -> Option<Entry>
     ensures { result ≡ next_entry (entries_from plan.now (row + 1) (rows plan.now - row)) }
 {
     for above in row..plan.statements.as_slice().len() as u32 {
-        match entry_at(plan, above + 1, 0) {
-            Some(entry) => return Some(entry),
-            None => {}
+        if let Some(entry) = entry_at(plan, above + 1, 0) {
+            return Some(entry);
         }
     }
     None

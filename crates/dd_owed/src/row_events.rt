@@ -7,16 +7,8 @@ ghost use Rattle.dd_machine.specs.Owed.{entries_of, events_of};
 ghost use Rattle.dd_machine.specs.Words.{rows, statement};
 
 use crate::events::{free_event, print_event, put_event, region_event, shift_event, sum_event};
-use dd_blocks::{Plan, StatementRow, What};
+use dd_blocks::{Plan, What};
 use dd_machine::{Entry, Event};
-
-/// A row by its number.
-fn statement_row(plan: &Plan, row: u32) -> &StatementRow
-    requires { IsNumberIn plan.now.statements row }
-    ensures { result.now ≡ statement plan.now row }
-{
-    &plan.statements.as_slice()[row as usize - 1]
-}
 
 /// The event at a place of a row, from 0.
 fn event_at(plan: &Plan, row: u32, i: u32) -> Option<Event>
@@ -25,7 +17,7 @@ fn event_at(plan: &Plan, row: u32, i: u32) -> Option<Event>
     ensures value { result ≡ slice_get (events_of plan.now row (statement plan.now row).what) i }
     ensures few { IfSome result (λ _. i < 3 * blocks_limit) }
 {
-    match &statement_row(plan, row).what {
+    match &plan.statement(row).what {
         What::Put(array) => put_event(plan, row, *array, i),
         What::Print(array) => print_event(plan, row, *array, i),
         What::Sum { array, .. } => sum_event(plan, row, *array, i),
@@ -49,7 +41,7 @@ pub(crate) fn entry_at(plan: &Plan, row: u32, i: u32) -> Option<Entry>
     }
     match event_at(plan, row, i) {
         Some(event) => Some(Entry {
-            line: statement_row(plan, row).line,
+            line: plan.statement(row).line,
             event,
         }),
         None => None,

@@ -15,7 +15,7 @@ loop-access-preserved c =
     let plan = c.args.plan.now in
     let xs = (task_row plan c.args.task).accesses in
     let i = c.loop-access.access-index in
-    let items : c.as_slice-access-items.result.now ≡ xs = c.as_slice-access-items.ensures ∙ ap (λ (t : TaskRow). t.accesses) c.task_row.ensures in
+    let items : c.as_slice-access-items.result.now ≡ xs = c.as_slice-access-items.ensures ∙ ap (λ (t : TaskRow). t.accesses) c.task.ensures in
     let count = ap (λ (rows : List AccessRow). length rows) items in
     let lt : i < length xs = omega (arith, c.loop-access-test.true, count) in
     let step = rw items at c.set_access.ensures.set in (
@@ -28,7 +28,7 @@ returns-clause-finished c =
     let plan = c.args.plan.now in
     let xs = (task_row plan c.args.task).accesses in
     let i = c.loop-access.access-index in
-    let items : c.as_slice-access-items.result.now ≡ xs = c.as_slice-access-items.ensures ∙ ap (λ (t : TaskRow). t.accesses) c.task_row.ensures in
+    let items : c.as_slice-access-items.result.now ≡ xs = c.as_slice-access-items.ensures ∙ ap (λ (t : TaskRow). t.accesses) c.task.ensures in
     let count = ap (λ (rows : List AccessRow). length rows) items in
     let le : length xs ≤ i = omega (arith, c.loop-access-test.false, count) in
     finished plan c.args.task c.args.versions.now.list c.loop-access.versions.list c.requires.well c.requires.task

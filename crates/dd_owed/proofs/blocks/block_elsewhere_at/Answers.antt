@@ -2,6 +2,7 @@ use Rattle.std.proofs.Common.{◌≡◌, ◌+◌, ◌-◌, ◌<◌, ℕ, not, na
 use Rattle.std.specs.List.{last_or}
 use Rattle.std.specs.Option.{unwrap_or}
 use Rattle.dd_blocks.specs.declared.array_row.ArrayRow.{ArrayRow}
+use Rattle.dd_blocks.specs.declared.block_row.BlockRow.{BlockRow}
 use Rattle.dd_blocks.specs.Grids.{block_count}
 use Rattle.dd_blocks.specs.Homes.{home_before, spaces_of}
 use Rattle.dd_blocks.specs.Numbered.{array_row, block_row}
@@ -11,23 +12,23 @@ use Rattle.dd_owed.proofs.PiecesLemmas.{is_other, is_same, sought_here, sought_l
 use Rattle.dd_owed.proofs.blocks.block_elsewhere_at.Goals as goal
 use Rattle.dd_owed.proofs.blocks.block_elsewhere_at.Goals.{then-home-space+else-left-eq0, else-home-space}
 
-pub first_home-requires : goal.first_home-requires
-first_home-requires c =
-    let n = ap (λ (r : ArrayRow). block_count r.grid) c.array_row-found.ensures in
-    rw c.array_row-found.ensures (block_known c.args.plan.now c.args.array c.loop-j.j c.requires.well c.requires.array (omega (arith, c.loop-j-test.true, c.blocks-j-end.ensures.value, n)))
+pub block-requires : goal.block-requires
+block-requires c =
+    let n = ap (λ (r : ArrayRow). block_count r.grid) c.array-found.ensures in
+    rw c.array-found.ensures (block_known c.args.plan.now c.args.array c.loop-j.j c.requires.well c.requires.array (omega (arith, c.loop-j-test.true, c.blocks-j-end.ensures.value, n)))
 
 pub returns-then-left-eq0-clause-value : goal.returns-then-left-eq0-clause-value
 returns-then-left-eq0-clause-value c =
-    let row = c.array_row-found.result in
+    let row = c.array-found.result.now in
     let lt : c.loop-j.j < block_count row.grid = omega (arith, c.loop-j-test.true, c.blocks-j-end.ensures.value) in
     let plan = c.args.plan.now in
-    let n = ap (λ (r : ArrayRow). block_count r.grid) c.array_row-found.ensures in
+    let n = ap (λ (r : ArrayRow). block_count r.grid) c.array-found.ensures in
     let inside : c.loop-j.j < block_count (array_row plan c.args.array).grid = omega (arith, c.loop-j-test.true, c.blocks-j-end.ensures.value, n) in
     let moved = last_or None (spaces_of c.args.array (take (c.args.row - 1) plan.statements)) in
     let P : ℕ → Type 0 = λ b. unwrap_or moved (block_row plan b).home ≡ home_before plan c.args.row b in
-    let first : (array_row plan c.args.array).first_block + c.loop-j.j ≡ row.first_block + c.loop-j.j = ap (λ (r : ArrayRow). r.first_block + c.loop-j.j) (sym c.array_row-found.ensures) in
+    let first : (array_row plan c.args.array).first_block + c.loop-j.j ≡ row.first_block + c.loop-j.j = ap (λ (r : ArrayRow). r.first_block + c.loop-j.j) (sym c.array-found.ensures) in
     let is : c.unwrap_or-home.result ≡ home_before plan c.args.row (row.first_block + c.loop-j.j) =
-    c.unwrap_or-home.ensures ∙ ap (λ o. unwrap_or o c.first_home.result) c.moved_to-moved.ensures ∙ ap (unwrap_or moved) c.first_home.ensures
+    c.unwrap_or-home.ensures ∙ ap (λ o. unwrap_or o c.block.result.now.home) c.moved_to-moved.ensures ∙ ap (λ (b : BlockRow). unwrap_or moved b.home) c.block.ensures
     ∙ subst P first (home_is plan c.args.row c.args.array c.loop-j.j c.requires.well c.requires.array inside) in
     let p = λ (b : ℕ). not (nat_eq (home_before c.args.plan.now c.args.row b) c.args.space) in
     let good : p (row.first_block + c.loop-j.j) ≡ true = ap (λ (h : ℕ). not (nat_eq h c.args.space)) (sym is) ∙ is_other c.unwrap_or-home.result c.args.space c.if-home-space.true in
@@ -35,21 +36,21 @@ returns-then-left-eq0-clause-value c =
 
 pub returns-then-left-eq0-clause-known : goal.returns-then-left-eq0-clause-known
 returns-then-left-eq0-clause-known c =
-    let n = ap (λ (r : ArrayRow). block_count r.grid) c.array_row-found.ensures in
-    rw c.array_row-found.ensures (block_known c.args.plan.now c.args.array c.loop-j.j c.requires.well c.requires.array (omega (arith, c.loop-j-test.true, c.blocks-j-end.ensures.value, n)))
+    let n = ap (λ (r : ArrayRow). block_count r.grid) c.array-found.ensures in
+    rw c.array-found.ensures (block_known c.args.plan.now c.args.array c.loop-j.j c.requires.well c.requires.array (omega (arith, c.loop-j-test.true, c.blocks-j-end.ensures.value, n)))
 
 pub loop-j-preserved : goal.loop-j-preserved
 loop-j-preserved c =
-    let row = c.array_row-found.result in
+    let row = c.array-found.result.now in
     let lt : c.loop-j.j < block_count row.grid = omega (arith, c.loop-j-test.true, c.blocks-j-end.ensures.value) in
     let plan = c.args.plan.now in
-    let n = ap (λ (r : ArrayRow). block_count r.grid) c.array_row-found.ensures in
+    let n = ap (λ (r : ArrayRow). block_count r.grid) c.array-found.ensures in
     let inside : c.loop-j.j < block_count (array_row plan c.args.array).grid = omega (arith, c.loop-j-test.true, c.blocks-j-end.ensures.value, n) in
     let moved = last_or None (spaces_of c.args.array (take (c.args.row - 1) plan.statements)) in
     let P : ℕ → Type 0 = λ b. unwrap_or moved (block_row plan b).home ≡ home_before plan c.args.row b in
-    let first : (array_row plan c.args.array).first_block + c.loop-j.j ≡ row.first_block + c.loop-j.j = ap (λ (r : ArrayRow). r.first_block + c.loop-j.j) (sym c.array_row-found.ensures) in
+    let first : (array_row plan c.args.array).first_block + c.loop-j.j ≡ row.first_block + c.loop-j.j = ap (λ (r : ArrayRow). r.first_block + c.loop-j.j) (sym c.array-found.ensures) in
     let is : c.unwrap_or-home.result ≡ home_before plan c.args.row (row.first_block + c.loop-j.j) =
-    c.unwrap_or-home.ensures ∙ ap (λ o. unwrap_or o c.first_home.result) c.moved_to-moved.ensures ∙ ap (unwrap_or moved) c.first_home.ensures
+    c.unwrap_or-home.ensures ∙ ap (λ o. unwrap_or o c.block.result.now.home) c.moved_to-moved.ensures ∙ ap (λ (b : BlockRow). unwrap_or moved b.home) c.block.ensures
     ∙ subst P first (home_is plan c.args.row c.args.array c.loop-j.j c.requires.well c.requires.array inside) in
     let p = λ (b : ℕ). not (nat_eq (home_before c.args.plan.now c.args.row b) c.args.space) in
     elim c.if-home-space.branch [

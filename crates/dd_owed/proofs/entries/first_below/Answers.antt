@@ -12,4 +12,4 @@ returns-in-Some c =
 pub loop-above-preserved : goal.loop-above-preserved
 loop-above-preserved c =
     let count = ap (λ (xs : List StatementRow). length xs) c.as_slice.ensures in
-    sym (row_passed c.args.plan.now c.loop-above.above (rows c.args.plan.now) (omega (arith, count)) (sym c.entry_at.ensures.value ∙ c.in-None.is)) ∙ c.loop-above.invariant
+    sym (row_passed c.args.plan.now c.loop-above.above (rows c.args.plan.now) (omega (arith, count)) (sym c.entry_at.ensures.value ∙ c.in_default.is)) ∙ c.loop-above.invariant

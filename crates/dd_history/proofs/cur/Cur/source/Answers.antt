@@ -18,8 +18,8 @@ overflow_add-block c =
     let n = c.array_of-array.result in
     let e : Element = record { array = n; pos = c.args.element - (array_row plan n).first_element } in
     let is : IsElement plan e = record { array = c.array_of-array.ensures.array; within = c.array_of-array.ensures.within } in
-    let at : c.array_row-row.result.first_block + c.block_of.result ≡ block_of_element plan e =
-    ap (λ (b : ℕ). c.array_row-row.result.first_block + b) c.block_of.ensures.value ∙ ap (λ (r : ArrayRow). r.first_block + block_of r.grid (c.args.element - r.first_element)) c.array_row-row.ensures in
+    let at : c.array-row.result.now.first_block + c.block_of.result ≡ block_of_element plan e =
+    ap (λ (b : ℕ). c.array-row.result.now.first_block + b) c.block_of.ensures.value ∙ ap (λ (r : ArrayRow). r.first_block + block_of r.grid (c.args.element - r.first_element)) c.array-row.ensures in
     let has = (place_of_each plan c.requires.well.layout e is).block in
     let all = all_blocks plan c.requires.well.layout in
     omega (arith, at, has.1, all, c.requires.well.limits.blocks)
@@ -30,8 +30,8 @@ home_in_region-requires-clause-block c =
     let n = c.array_of-array.result in
     let e : Element = record { array = n; pos = c.args.element - (array_row plan n).first_element } in
     let is : IsElement plan e = record { array = c.array_of-array.ensures.array; within = c.array_of-array.ensures.within } in
-    let at : c.array_row-row.result.first_block + c.block_of.result ≡ block_of_element plan e =
-    ap (λ (b : ℕ). c.array_row-row.result.first_block + b) c.block_of.ensures.value ∙ ap (λ (r : ArrayRow). r.first_block + block_of r.grid (c.args.element - r.first_element)) c.array_row-row.ensures in
+    let at : c.array-row.result.now.first_block + c.block_of.result ≡ block_of_element plan e =
+    ap (λ (b : ℕ). c.array-row.result.now.first_block + b) c.block_of.ensures.value ∙ ap (λ (r : ArrayRow). r.first_block + block_of r.grid (c.args.element - r.first_element)) c.array-row.ensures in
     rw at (place_of_each plan c.requires.well.layout e is).block
 
 pub returns : goal.returns
@@ -40,8 +40,8 @@ returns c = λ e is_e number.
     let n = c.array_of-array.result in
     let f : Element = record { array = n; pos = c.args.element - (array_row plan n).first_element } in
     let is : IsElement plan f = record { array = c.array_of-array.ensures.array; within = c.array_of-array.ensures.within } in
-    let at : c.array_row-row.result.first_block + c.block_of.result ≡ block_of_element plan f =
-    ap (λ (b : ℕ). c.array_row-row.result.first_block + b) c.block_of.ensures.value ∙ ap (λ (r : ArrayRow). r.first_block + block_of r.grid (c.args.element - r.first_element)) c.array_row-row.ensures in
+    let at : c.array-row.result.now.first_block + c.block_of.result ≡ block_of_element plan f =
+    ap (λ (b : ℕ). c.array-row.result.now.first_block + b) c.block_of.ensures.value ∙ ap (λ (r : ArrayRow). r.first_block + block_of r.grid (c.args.element - r.first_element)) c.array-row.ensures in
     let whole : number_of plan f ≡ c.args.element = omega (arith, c.array_of-array.ensures.behind) in
     let same : f ≡ e = same_element plan c.requires.well.layout f e is is_e (whole ∙ sym number) in
     let from : ℕ → ℕ → ℕ = λ v h. cond (list_any (λ t. eqb t v) (tasks_in plan c.args.region)) (place_of plan v) h in

@@ -18,7 +18,7 @@ overflow_sub-self c =
     let plan = c.args.self.now.plan.now in
     let block = c.args.self.now.block in
     let stand = block_stands plan c.requires.asked.well.layout block c.requires.asked.block in
-    let row_is : c.array_row-row.result ≡ array_row plan (block_row plan block).array = c.array_row-row.ensures ∙ ap (λ (b : BlockRow). array_row plan b.array) c.block_row.ensures in
+    let row_is : c.array-row.result.now ≡ array_row plan (block_row plan block).array = c.array-row.ensures ∙ ap (λ (b : BlockRow). array_row plan b.array) c.block.ensures in
     rw row_is stand.low
 
 pub pos_of-requires-clause-block : goal.pos_of-requires-clause-block
@@ -26,7 +26,7 @@ pos_of-requires-clause-block c =
     let plan = c.args.self.now.plan.now in
     let block = c.args.self.now.block in
     let stand = block_stands plan c.requires.asked.well.layout block c.requires.asked.block in
-    let row_is : c.array_row-row.result ≡ array_row plan (block_row plan block).array = c.array_row-row.ensures ∙ ap (λ (b : BlockRow). array_row plan b.array) c.block_row.ensures in
+    let row_is : c.array-row.result.now ≡ array_row plan (block_row plan block).array = c.array-row.ensures ∙ ap (λ (b : BlockRow). array_row plan b.array) c.block.ensures in
     rw (c.from-within.ensures, row_is) stand.high
 
 pub pos_of-requires-clause-place : goal.pos_of-requires-clause-place
@@ -34,7 +34,7 @@ pos_of-requires-clause-place c =
     let plan = c.args.self.now.plan.now in
     let block = c.args.self.now.block in
     let stand = block_stands plan c.requires.asked.well.layout block c.requires.asked.block in
-    let row_is : c.array_row-row.result ≡ array_row plan (block_row plan block).array = c.array_row-row.ensures ∙ ap (λ (b : BlockRow). array_row plan b.array) c.block_row.ensures in
+    let row_is : c.array-row.result.now ≡ array_row plan (block_row plan block).array = c.array-row.ensures ∙ ap (λ (b : BlockRow). array_row plan b.array) c.block.ensures in
     rw (c.from-within.ensures, row_is) (rw stand.size at c.requires.place)
 
 pub get-version-requires : goal.get-version-requires
@@ -42,8 +42,8 @@ get-version-requires c =
     let plan = c.args.self.now.plan.now in
     let block = c.args.self.now.block in
     let stand = block_stands plan c.requires.asked.well.layout block c.requires.asked.block in
-    let row_is : c.array_row-row.result ≡ array_row plan (block_row plan block).array = c.array_row-row.ensures ∙ ap (λ (b : BlockRow). array_row plan b.array) c.block_row.ensures in
-    let row = c.array_row-row.result in
+    let row_is : c.array-row.result.now ≡ array_row plan (block_row plan block).array = c.array-row.ensures ∙ ap (λ (b : BlockRow). array_row plan b.array) c.block.ensures in
+    let row = c.array-row.result.now in
     let place = c.args.place in
     let number : row.first_element + c.pos_of.result ≡ number_of plan (element_of plan block place) =
     ap (λ (p : ℕ). row.first_element + p) c.pos_of.ensures.value
@@ -56,8 +56,8 @@ returns-then-get-version c =
     let plan = c.args.self.now.plan.now in
     let block = c.args.self.now.block in
     let stand = block_stands plan c.requires.asked.well.layout block c.requires.asked.block in
-    let row_is : c.array_row-row.result ≡ array_row plan (block_row plan block).array = c.array_row-row.ensures ∙ ap (λ (b : BlockRow). array_row plan b.array) c.block_row.ensures in
-    let row = c.array_row-row.result in
+    let row_is : c.array-row.result.now ≡ array_row plan (block_row plan block).array = c.array-row.ensures ∙ ap (λ (b : BlockRow). array_row plan b.array) c.block.ensures in
+    let row = c.array-row.result.now in
     let place = c.args.place in
     let number : row.first_element + c.pos_of.result ≡ number_of plan (element_of plan block place) =
     ap (λ (p : ℕ). row.first_element + p) c.pos_of.ensures.value
