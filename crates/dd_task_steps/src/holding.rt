@@ -16,6 +16,9 @@ use dd_tables::Tables;
 use dd_tables::rows::{place, size};
 use std::alloc::AllocError;
 
+/// The version of an element that was never written in a copy.
+const BLANK: u32 = u32::MAX;
+
 /// The blocks of a task are reserved in its space.
 pub fn hold(plan: &Plan, tables: &mut Tables, task: u32)
     requires well { IsWellFormed plan.now }
@@ -47,6 +50,3 @@ pub fn make(plan: &Plan, tables: &mut Tables, task: u32, block: u32) -> Result<(
     set_copy(plan, tables, space, block, Some(copy));
     Ok(())
 }
-
-/// The version of an element that was never written in a copy.
-const BLANK: u32 = u32::MAX;

@@ -2,8 +2,8 @@
 //!
 //! Each asks that its event is legal in the state that the tables stand for, makes the state that `specs/Effects.antt` of
 //! dd_machine has after it, and keeps the tables those of their Plan. [`copy`] serves the events Copy and Back, as task 0 stands
-//! for the write-back. [`make`] and [`come`] alone may want memory, and then change nothing. The others take none, [`finish`]
-//! among them: its versions go where the old ones were.
+//! for the write-back. [`make`] and [`come`] alone may want memory, and then change nothing. The others take none: what
+//! [`copy`] and [`finish`] write goes where the old versions were.
 //!
 //! A step is made of the single changes of dd_changes. `specs/Written.antt` is cited by private contracts alone.
 #![tactic(auto)]
