@@ -4,3 +4,4 @@ pub mod SpillsLawLemmas
 pub mod MovedLawLemmas
 pub mod NeverStuckLemmas
 pub mod EndsLemmas
+pub mod AskedLemmas

@@ -10,11 +10,13 @@ ghost use Rattle.dd_machine.specs.Bytes.{load, resident, victim};
 ghost use Rattle.dd_machine.specs.Carriage.{IsCarriage, Step, sends};
 ghost use Rattle.dd_machine.specs.Closed.{IsAtHome};
 ghost use Rattle.dd_machine.specs.GoesOn.{GoOn};
+ghost use Rattle.dd_machine.specs.Owed.{all_entries, left, made};
 ghost use Rattle.dd_machine.specs.Roomy.{AllRoomy};
-ghost use Rattle.dd_machine.specs.Runs.{IsLegalRun, has_pick, state_of_run};
+ghost use Rattle.dd_machine.specs.Runs.{IsLegalRun, IsWholeRun, has_pick, start, state_of_run};
 ghost use Rattle.dd_machine.specs.Sound.{IsSound};
 ghost use Rattle.dd_machine.specs.TwoSpaces.{AreRefused, IsWorked, two_spaces};
 ghost use Rattle.dd_machine.specs.Words.{IsOneOf, limit, spaces};
+ghost use Rattle.laws_of_machine.specs.Asked.{asked};
 
 /// After every legal run the state is sound.
 pub fn sound()
@@ -60,6 +62,15 @@ pub fn moved_least()
 /// task on; and a region is closed within a bounded number of entries.
 pub fn goes_on()
     ensures { (plan : Plan) → IsWellFormed plan → GoOn plan }
+{}
+
+/// The entries of a legal run that the statements ask for are those that its state says were made. With those that are left
+/// they are all that the statements ask for, in this order; of a whole run they are all.
+pub fn asks_all()
+    ensures made { (plan : Plan) (entries : List Entry) → IsWellFormed plan → IsLegalRun plan entries → made plan (state_of_run plan entries).progress ≡ asked plan (start plan) entries }
+    ensures so_far { (plan : Plan) (entries : List Entry) → IsWellFormed plan → IsLegalRun plan entries
+        → asked plan (start plan) entries ++ left plan (state_of_run plan entries).progress ≡ all_entries plan }
+    ensures whole { (plan : Plan) (entries : List Entry) → IsWellFormed plan → IsWholeRun plan entries → asked plan (start plan) entries ≡ all_entries plan }
 {}
 
 /// A well-formed Plan with a whole legal run exists, so what the laws assume can be met: the worked script of two spaces, whose
