@@ -1,6 +1,9 @@
 pub mod Computing
 mod RowExamples
 pub mod RowLegal
+pub mod EveryPlan
+mod EveryExamples
+mod EveryLegal
 pub mod RowWellFormed
 pub mod ChangesLemmas
 pub mod RangesLemmas

@@ -84,19 +84,19 @@ one = (omega arith, omega arith)
 two : IsOneOf 2 2
 two = (omega arith, omega arith)
 
-in_two : (P : ℕ → Type 0) → P 1 → P 2 → (t : ℕ) → IsOneOf 2 t → P t
+pub in_two : (P : ℕ → Type 0) → P 1 → P 2 → (t : ℕ) → IsOneOf 2 t → P t
 in_two P p q zero is = absurd (omega (arith, is.0))
 in_two P p q (suc zero) is = p
 in_two P p q (suc (suc zero)) is = q
 in_two P p q (suc (suc (suc t))) is = absurd (omega (arith, is.1))
 
-closed : (A : ℕ → Type 0) (r : ℕ) → None ≡ Some r → A r
+pub closed : (A : ℕ → Type 0) (r : ℕ) → None ≡ Some r → A r
 closed A r e = absurd cc
 
-pinned_by : (P : ℕ → ℕ → Type 0) (s b : ℕ) → P s b → (x y : ℕ) → pin_at s b ≡ pin_at x y → P x y
+pub pinned_by : (P : ℕ → ℕ → Type 0) (s b : ℕ) → P s b → (x y : ℕ) → pin_at s b ≡ pin_at x y → P x y
 pinned_by P s b p x y e = let h = pair_same s x b y e in subst (λ z. P z y) h.0 (subst (λ z. P s z) h.1 p)
 
-open_one : (P : ℕ → Type 0) → P 1 → (r : ℕ) → Some 1 ≡ Some r → P r
+pub open_one : (P : ℕ → Type 0) → P 1 → (r : ℕ) → Some 1 ≡ Some r → P r
 open_one P p r e = let h : 1 ≡ r = cc in subst P h p
 
 -- every copy is Here
@@ -164,7 +164,7 @@ unfolding computing
 m6 = record { no_pin = refl; outside = refl; due = refl }
 
 -- the numbers in a list of one or two
-only_one : (x b : ℕ) → has_number (x ∷ []) b ≡ true → b ≡ x
+pub only_one : (x b : ℕ) → has_number (x ∷ []) b ≡ true → b ≡ x
 only_one x b e = ⊎_elim (λ (h : eqb x b ≡ true). sym (eqb-true x b h)) (λ (h : false ≡ true). absurd cc) (or_cases (eqb x b) false e)
 
 only_two : (x y b : ℕ) → has_number (x ∷ y ∷ []) b ≡ true → (b ≡ x) ⊎ (b ≡ y)
