@@ -12,7 +12,7 @@ ghost use Rattle.dd_tables.specs.Tables.{state_of, tasks_of};
 
 use dd_blocks::Plan;
 use dd_tables::Tables;
-use dd_tables::rows::{bytes, is_task, limit, place, proc_of, task_row, touches};
+use dd_tables::rows::{bytes, is_task, limit, place, proc_of, touches};
 
 /// Whether some tasks are done.
 fn are_done(tables: &Tables, tasks: &[u32]) -> bool
@@ -32,7 +32,7 @@ fn deps_done(tables: &Tables, plan: &Plan, task: u32) -> bool
     ensures { IsTrue result ↔ ((d : ℕ) → has_number (task_row plan.now task).deps d ≡ true
         → (state_of plan.now tables.now).tasks d ≡ Done) }
 {
-    are_done(tables, task_row(plan, task).deps.as_slice())
+    are_done(tables, plan.task(task).deps.as_slice())
 }
 
 /// Whether no task is Held or Running on the processor of a task.
@@ -55,7 +55,7 @@ pub(crate) fn may_hold(tables: &Tables, plan: &Plan, task: u32) -> bool
     if !is_task(plan, task) {
         return false;
     }
-    if tables.region != Some(task_row(plan, task).region) {
+    if tables.region != Some(plan.task(task).region) {
         return false;
     }
     if !tables.waits(task) {

@@ -14,7 +14,7 @@ ghost use Rattle.dd_tables.specs.Tables.{state_of, tasks_of};
 
 use dd_blocks::Plan;
 use dd_tables::Tables;
-use dd_tables::rows::{argument_bytes, place, task_row};
+use dd_tables::rows::{argument_bytes, place};
 
 /// How many workers there are.
 const WORKERS: u32 = 64;
@@ -25,7 +25,7 @@ fn all_here(tables: &Tables, plan: &Plan, task: u32, space: u32) -> bool
     ensures { IsTrue result
         ↔ ((b : ℕ) → touches plan.now task b ≡ true → Has (state_of plan.now tables.now) space b is_here) }
 {
-    are_here(tables, space, task_row(plan, task).blocks.as_slice())
+    are_here(tables, space, plan.task(task).blocks.as_slice())
 }
 
 /// Whether some blocks are in memory in a space.
@@ -64,7 +64,7 @@ fn all_current(tables: &Tables, plan: &Plan, task: u32) -> bool
     ensures { IsTrue result ↔ ((b : ℕ) → touches plan.now task b ≡ true
         → reads_current plan.now (state_of plan.now tables.now) task b ≡ true) }
 {
-    are_current(tables, plan, task, task_row(plan, task).blocks.as_slice())
+    are_current(tables, plan, task, plan.task(task).blocks.as_slice())
 }
 
 /// Whether a task may start, the worker aside.

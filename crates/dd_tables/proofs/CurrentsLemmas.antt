@@ -1,6 +1,6 @@
 -- The numbers of elements among those of all arrays, and what a task writes there.
-use Rattle.std.proofs.Common.{◌≡◌, ◌≢◌, ◌⊎◌, ℕ, zero, suc, ◌+◌, ◌-◌, ◌*◌, ◌<◌, ◌≤◌, Bool, true, false, ◌&&◌, ◌||◌, cond, eqb, ltb, List, [], ◌∷◌, length, get_or, set, take, refl, ap, sym, ◌∙◌, subst, ⊎_elim, arith}
-use Rattle.std.specs.List.{All, Contains, list_any, sum_by}
+use Rattle.std.proofs.Common.{◌≡◌, ◌≢◌, ℕ, zero, suc, ◌+◌, ◌<◌, ◌≤◌, Bool, true, false, ◌&&◌, ◌||◌, cond, eqb, List, length, get_or, set, take, refl, ap, sym, ◌∙◌, ⊎_elim, arith}
+use Rattle.std.specs.List.{All, list_any}
 use Rattle.std.proofs.lemmas.Bool.{cases_Bool, cases_eq, cases_lt, eq-eqb, lt-ltb, ltb-true, ne_eqb, or_right}
 use Rattle.std.proofs.lemmas.List.{get_or-set_other, get_or-set_same, get_or_past}
 use Rattle.std.proofs.lemmas.List.Elements.{All-get_or}
@@ -11,7 +11,7 @@ use Rattle.dd_blocks.specs.Grids.{element_count}
 use Rattle.dd_blocks.specs.Layout.{IsLaidOut, elements_in}
 use Rattle.dd_blocks.specs.Numbered.{IsNumberIn, array_row, no_array, task_row}
 use Rattle.dd_blocks.specs.Tasks.{IsShown, shape_in}
-use Rattle.dd_blocks.specs.WellFormed.{IsWellFormed, TaskNamesRows}
+use Rattle.dd_blocks.specs.WellFormed.{IsWellFormed}
 use Rattle.dd_blocks.specs.Elements.{Element, has, task_writes, writes as writes_mode}
 use Rattle.dd_machine.specs.Words.{IsOneOf, tasks, writes}
 use Rattle.dd_views.specs.IndexList.{index_list}

@@ -7,3 +7,4 @@ pub mod VersionsLemmas
 pub mod CurrentsLemmas
 pub mod WorkLemmas
 pub mod HeldLemmas
+pub mod RegionsLemmas

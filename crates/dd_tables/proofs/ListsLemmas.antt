@@ -1,5 +1,5 @@
 -- Tests of the numbers of lists.
-use Rattle.std.proofs.Common.{◌≡◌, ℕ, zero, suc, ◌+◌, ◌-◌, ◌<◌, Bool, true, false, ◌||◌, ◌&&◌, cond, filter, eqb, List, [], ◌∷◌, drop, take, get_or, length, refl, ap, sym, ◌∙◌, ◌↔◌, IsTrue, ⊎_elim, arith, ◌≤◌, Option, Some, None}
+use Rattle.std.proofs.Common.{◌≡◌, ℕ, zero, suc, ◌+◌, ◌-◌, ◌<◌, Bool, true, false, ◌||◌, ◌&&◌, cond, filter, eqb, List, [], ◌∷◌, drop, take, get_or, length, refl, ap, sym, ◌∙◌, ◌↔◌, IsTrue, ⊎_elim, arith, ◌≤◌, Some}
 use Rattle.std.specs.List.{All, list_all, list_any, Contains, range_with_len, slice_get}
 use Rattle.std.proofs.lemmas.Bool.{and_from, and_parts, cases_Bool, cases_eq, eq-eqb, eqb-true, false_from_ne_true}
 use Rattle.dd_copies.specs.Numbers.{at_number, or_else}

@@ -1,5 +1,5 @@
 -- What is small enough to be summed.
-use Rattle.std.proofs.Common.{◌≡◌, ℕ, zero, suc, ◌+◌, ◌*◌, ◌^◌, ◌<◌, ◌≤◌, ◌-◌, true, List, [], length, get_or, ap, sym, ◌∙◌, subst, ⊎_elim, arith}
+use Rattle.std.proofs.Common.{◌≡◌, ℕ, zero, suc, ◌*◌, ◌^◌, ◌<◌, ◌≤◌, ◌-◌, true, List, [], length, get_or, ap, sym, subst, ⊎_elim, arith}
 use Rattle.std.specs.List.{All, sum}
 use Rattle.std.proofs.lemmas.Bool.{cases_lt}
 use Rattle.std.proofs.lemmas.List.Elements.{All-contains, All-get_or, All-weaker}
@@ -8,8 +8,8 @@ use Rattle.dd_blocks.specs.declared.access_row.AccessRow.{AccessRow}
 use Rattle.dd_blocks.specs.declared.block_row.BlockRow.{BlockRow}
 use Rattle.dd_blocks.specs.declared.plan.Plan.{Plan}
 use Rattle.dd_blocks.specs.declared.space_row.SpaceRow.{SpaceRow}
-use Rattle.dd_blocks.specs.Charges.{access_elements, charge_of, scratch_elements, touched_sizes}
-use Rattle.dd_blocks.specs.Limits.{space_limit}
+use Rattle.dd_blocks.specs.Charges.{access_elements, scratch_elements, touched_sizes}
+use Rattle.dd_blocks.specs.Limits.{blocks_limit, space_limit}
 use Rattle.dd_blocks.specs.Numbered.{IsNumberIn, block_row, no_task, numbered, proc_row, space_row, task_row}
 use Rattle.dd_blocks.specs.WellFormed.{FitsHomes, IsSmallSpace, IsWellFormed, TaskNamesRows}
 use Rattle.dd_blocks.proofs.LayoutLemmas.{all_blocks}
@@ -41,7 +41,7 @@ arguments_small plan task well is =
     let m = scratch_elements plan row in
     omega (arith, limit, charge, within)
 
-pub few_blocks : (plan : Plan) → IsWellFormed plan → blocks plan ≤ 4096
+pub few_blocks : (plan : Plan) → IsWellFormed plan → blocks plan ≤ blocks_limit
 few_blocks plan well = let all = all_blocks plan well.layout in let few = well.limits.blocks in omega (arith, all, few)
 
 pub touched_known : (plan : Plan) (task block : ℕ) → IsWellFormed plan → IsOneOf (tasks plan) task → touches plan task block ≡ true → IsOneOf (blocks plan) block

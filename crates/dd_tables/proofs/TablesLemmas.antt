@@ -1,5 +1,5 @@
 -- What a changed item makes of a table.
-use Rattle.std.proofs.Common.{◌≡◌, ℕ, zero, suc, ◌-◌, ◌<◌, ◌≤◌, Bool, cond, not, List, [], ◌∷◌, get_or, length, set, Option, Result, Ok, Err, OnOk, refl, ap, sym, ◌∙◌, subst, arith}
+use Rattle.std.proofs.Common.{◌≡◌, ℕ, zero, suc, ◌-◌, ◌<◌, Bool, cond, not, List, [], ◌∷◌, get_or, length, set, Option, Result, Ok, Err, OnOk, refl, ap, sym, ◌∙◌, subst, arith}
 use Rattle.std.specs.List.{Contains, slice_get}
 use Rattle.std.proofs.lemmas.Option.{slice_get-get_or}
 use Rattle.std.proofs.Math.Path.{fun_ext}
@@ -9,7 +9,7 @@ use Rattle.dd_machine.specs.declared.task_state.TaskState.{TaskState}
 use Rattle.dd_machine.specs.declared.task_state.TaskState.TheVariants.{Waiting}
 use Rattle.dd_machine.specs.States.{at_one}
 use Rattle.dd_machine.specs.Words.{IsOneOf}
-use Rattle.dd_copies.specs.Numbers.{at_number, or_else}
+use Rattle.dd_copies.specs.Numbers.{or_else}
 use Rattle.dd_copies.proofs.CellsLemmas.{one_set}
 use Rattle.dd_tables.specs.Tables.{HasRoom, homes_of, orders_of, tasks_of}
 

@@ -1,5 +1,5 @@
 -- The current versions of all elements, the arrays one after the other.
-use Rattle.std.specs.Prelude.{ℕ, ◌+◌, Bool, nat_lt, List, slice_index, if◌then◌else◌}
+use Rattle.std.specs.Prelude.{ℕ, Bool, nat_lt, List, slice_index, if◌then◌else◌}
 use Rattle.dd_blocks.specs.declared.plan.Plan.{Plan}
 use Rattle.dd_blocks.specs.Grids.{element_count}
 use Rattle.dd_blocks.specs.Numbered.{array_row}

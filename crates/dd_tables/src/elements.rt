@@ -13,9 +13,7 @@ ghost use Rattle.dd_machine.specs.Words.{IsOneOf, element};
 ghost use Rattle.dd_blocks.specs.Elements.{has, task_reads, task_writes};
 ghost use Rattle.dd_views.specs.Views.{IsView};
 
-use crate::rows::{array_row, block_row};
 use dd_blocks::{AccessRow, Plan, TaskRow};
-use dd_kernels::Mode;
 use dd_spans::RunMap;
 
 /// The element at a position of an array.
@@ -35,8 +33,8 @@ impl Element {
         ensures number { IsOneOf (length plan.now.arrays) result.array }
         ensures within { result.pos < element_count (array_row plan.now result.array).grid }
     {
-        let array = block_row(plan, block).array;
-        let row = array_row(plan, array);
+        let array = plan.block(block).array;
+        let row = plan.array(array);
         let within = u64::from(block - row.first_block);
         Element {
             array,
@@ -52,7 +50,7 @@ impl Element {
         ensures value { result ≡ number_of plan.now (record { array = self.now.array; pos = self.now.pos }) }
         ensures within { result < elements_in plan.now.arrays }
     {
-        array_row(plan, self.array).first_element + self.pos
+        plan.array(self.array).first_element + self.pos
     }
 
     /// Whether an access has it.
@@ -69,7 +67,7 @@ impl Element {
         ensures { result ≡ task_reads task.now (record { array = self.now.array; pos = self.now.pos }) }
     {
         for access in task.accesses.as_slice() {
-            if reads_by(access.mode) && self.is_in(access) {
+            if access.reads() && self.is_in(access) {
                 return true;
             }
         }
@@ -82,24 +80,10 @@ impl Element {
         ensures { result ≡ task_writes task.now (record { array = self.now.array; pos = self.now.pos }) }
     {
         for access in task.accesses.as_slice() {
-            if writes_by(access.mode) && self.is_in(access) {
+            if access.writes() && self.is_in(access) {
                 return true;
             }
         }
         false
     }
-}
-
-/// Whether an access of the mode reads.
-pub fn reads_by(mode: Mode) -> bool
-    ensures { result ≡ reads mode }
-{
-    matches!(mode, Mode::Read | Mode::Both)
-}
-
-/// Whether an access of the mode writes.
-pub fn writes_by(mode: Mode) -> bool
-    ensures { result ≡ writes mode }
-{
-    matches!(mode, Mode::Write | Mode::Both)
 }

@@ -10,7 +10,7 @@ ghost use Rattle.dd_machine.specs.Needed.{is_current, is_current_at, is_needed, 
 ghost use Rattle.dd_machine.specs.Words.{IsOneOf, blocks, element, place, reads, size, tasks};
 
 use crate::elements::Element;
-use crate::rows::{is_of, place, size, task_row};
+use crate::rows::{is_of, place, size};
 use crate::tables::Tables;
 use dd_blocks::Plan;
 use dd_spans::{RunMap, Runs};
@@ -24,7 +24,7 @@ pub fn reads(plan: &Plan, task: u32, block: u32, i: u64) -> bool
     requires place { IsPlace plan.now block i }
     ensures { result ≡ reads plan.now task (element plan.now block i) }
 {
-    Element::at(plan, block, i).is_read_by(task_row(plan, task))
+    Element::at(plan, block, i).is_read_by(plan.task(task))
 }
 
 impl Tables {
@@ -95,9 +95,9 @@ impl Tables {
         ensures { result ≡ is_fetched plan.now (state_of plan.now self.now) task block from i version }
     {
         let current = self.current_at(plan, block, i);
-        (task == 0 || reads(plan, task, block, i))
-            && version != current
+        version != current
             && self.source(plan, self.home_of(block), current) == from
+            && (task == 0 || reads(plan, task, block, i))
     }
 
     /// Whether the element at a place of a block is needed by a task, or for 0 by the write-back, from a space.
@@ -180,7 +180,7 @@ impl Tables {
         requires place { IsPlace plan.now block i }
         ensures { result ≡ is_read_current plan.now (state_of plan.now self.now) task block i }
     {
-        !reads(plan, task, block, i) || self.is_current_at(plan, space, block, i)
+        self.is_current_at(plan, space, block, i) || !reads(plan, task, block, i)
     }
 
     /// Whether a task's copy of a block has the current version of each element that the task reads.

@@ -1,33 +1,18 @@
 //! The rows of a Plan by their numbers.
-ghost use Rattle.std.specs.Prelude.{◌≡◌, ◌↔◌, ◌<◌, ◌≤◌, ◌^◌, length, IsTrue};
-ghost use Rattle.dd_blocks.specs.Numbered.{array_row, block_row, task_row};
+ghost use Rattle.std.specs.Prelude.{◌≡◌, ◌↔◌, ◌<◌, ◌≤◌, ◌^◌, IsTrue};
+ghost use Rattle.dd_blocks.specs.Limits.{blocks_limit};
+ghost use Rattle.dd_blocks.specs.Numbered.{task_row};
 ghost use Rattle.dd_blocks.specs.WellFormed.{IsWellFormed};
 ghost use Rattle.dd_machine.specs.Words.{IsOneOf, argument_bytes, blocks, bytes, is_of, limit, place, proc_of, scratch, size, spaces, tasks, touches};
 
-use dd_blocks::{ArrayRow, BlockRow, Plan, TaskRow};
-
-/// The row of a block.
-pub fn block_row(plan: &Plan, block: u32) -> BlockRow
-    requires { IsOneOf (blocks plan.now) block }
-    ensures { result ≡ block_row plan.now block }
-{
-    plan.blocks.as_slice()[block as usize - 1]
-}
-
-/// The row of an array.
-pub fn array_row(plan: &Plan, array: u32) -> ArrayRow
-    requires { IsOneOf (length plan.now.arrays) array }
-    ensures { result ≡ array_row plan.now array }
-{
-    plan.arrays.as_slice()[array as usize - 1]
-}
+use dd_blocks::{Plan, TaskRow};
 
 /// The row of a task.
 pub fn task_row(plan: &Plan, task: u32) -> &TaskRow
     requires { IsOneOf (tasks plan.now) task }
     ensures { result.now ≡ task_row plan.now task }
 {
-    &plan.tasks.as_slice()[task as usize - 1]
+    plan.task(task)
 }
 
 /// The processor of a task.
@@ -35,7 +20,7 @@ pub fn proc_of(plan: &Plan, task: u32) -> u32
     requires { IsOneOf (tasks plan.now) task }
     ensures { result ≡ proc_of plan.now task }
 {
-    task_row(plan, task).proc
+    plan.task(task).proc
 }
 
 /// The space of a task, or 0 where there is none of the number.
@@ -47,7 +32,7 @@ pub fn place(plan: &Plan, task: u32) -> u32
     if !is_task(plan, task) {
         return 0;
     }
-    plan.procs.as_slice()[proc_of(plan, task) as usize - 1].space
+    plan.proc(proc_of(plan, task)).space
 }
 
 /// Whether a task touches a block.
@@ -57,16 +42,18 @@ pub fn touches(plan: &Plan, task: u32, block: u32) -> bool
     ensures value { result ≡ touches plan.now task block }
     ensures known { IsTrue result → IsOneOf (blocks plan.now) block }
 {
-    task_row(plan, task).blocks.as_slice().contains(&block)
+    plan.task(task)
+        .blocks
+        .as_slice()
+        .binary_search(&block)
+        .is_ok()
 }
 
 /// Whether a number is that of a task of a region.
 pub fn is_of(plan: &Plan, region: u32, task: u32) -> bool
     ensures { result ≡ is_of plan.now region task }
 {
-    1 <= task
-        && task as usize <= plan.tasks.as_slice().len()
-        && task_row(plan, task).region == region
+    1 <= task && task as usize <= plan.tasks.as_slice().len() && plan.task(task).region == region
 }
 
 /// The limit of a space, in bytes.
@@ -74,7 +61,7 @@ pub fn limit(plan: &Plan, space: u32) -> u64
     requires { IsOneOf (spaces plan.now) space }
     ensures { result ≡ limit plan.now space }
 {
-    plan.spaces.as_slice()[space as usize - 1].limit
+    plan.space(space).limit
 }
 
 /// The size of a block, in elements.
@@ -83,7 +70,7 @@ pub fn size(plan: &Plan, block: u32) -> u64
     ensures value { result ≡ size plan.now block }
     ensures small { result < 2 ^ 32 }
 {
-    u64::from(block_row(plan, block).size)
+    u64::from(plan.block(block).size)
 }
 
 /// In bytes.
@@ -100,7 +87,7 @@ pub fn bytes(plan: &Plan, block: u32) -> u64
 pub fn block_count(plan: &Plan) -> u32
     requires { IsWellFormed plan.now }
     ensures value { result ≡ blocks plan.now }
-    ensures few { result ≤ 4096 }
+    ensures few { result ≤ blocks_limit }
 {
     plan.blocks.as_slice().len() as u32
 }
@@ -133,7 +120,7 @@ pub fn argument_bytes(plan: &Plan, task: u32) -> u64
     ensures small { result ≤ 2 ^ 40 }
 {
     let mut sum = 0;
-    for access in task_row(plan, task).accesses.as_slice() {
+    for access in plan.task(task).accesses.as_slice() {
         sum += access.view.len();
     }
     8 * sum
@@ -148,7 +135,7 @@ pub fn scratch(plan: &Plan, task: u32) -> u64
     ensures small { result < 2 ^ 35 }
 {
     let mut most = 0;
-    for block in task_row(plan, task).blocks.as_slice() {
+    for block in plan.task(task).blocks.as_slice() {
         most = size(plan, *block).max(most);
     }
     8 * most

@@ -1,5 +1,6 @@
 //! How far tasks are, where copies are, and what the statements ask for next.
-ghost use Rattle.std.specs.Prelude.{◌≡◌, ◌↔◌, ◌≤◌, ◌^◌, IsTrue, Some};
+ghost use Rattle.std.specs.Prelude.{◌≡◌, ◌↔◌, ◌<◌, ◌≤◌, ◌^◌, ℕ, IsTrue, Some};
+ghost use Rattle.dd_blocks.specs.Numbered.{task_row};
 ghost use Rattle.dd_blocks.specs.WellFormed.{IsWellFormed};
 ghost use Rattle.dd_copies.specs.CopyTables.{copies_of};
 ghost use Rattle.dd_machine.specs.declared.task_state.TaskState.TheVariants.{Done, Held, Running, Waiting};
@@ -10,10 +11,22 @@ ghost use Rattle.dd_machine.specs.Words.{IsOneOf, spaces, tasks};
 ghost use Rattle.dd_tables.specs.Sized.{IsSized};
 ghost use Rattle.dd_tables.specs.Tables.{state_of, tasks_of};
 
-use crate::rows::{is_of, limit};
+use crate::rows::limit;
 use crate::tables::Tables;
 use dd_blocks::Plan;
 use dd_machine::{Event, TaskState};
+
+/// How many tasks stand before those of a region.
+fn tasks_before(plan: &Plan, region: u32) -> u32
+    requires { IsWellFormed plan.now }
+    ensures within { result ≤ tasks plan.now }
+    ensures before { (t : ℕ) → 1 ≤ t → t ≤ result → (task_row plan.now t).region < region }
+    ensures behind { (t : ℕ) → result < t → t ≤ tasks plan.now → region ≤ (task_row plan.now t).region }
+{
+    plan.tasks
+        .as_slice()
+        .partition_point(|task| task.region < region) as u32
+}
 
 impl Tables {
     /// Whether so many more bytes are within the limit of a space.
@@ -62,9 +75,12 @@ impl Tables {
         requires { IsWellFormed plan.now }
         ensures { IsTrue result ↔ AllDone plan.now (state_of plan.now self.now) region }
     {
-        for i in 0..plan.tasks.as_slice().len() as u32 {
+        for i in tasks_before(plan, region)..plan.tasks.as_slice().len() as u32 {
             let task = i + 1;
-            if is_of(plan, region, task) && !self.is_done(task) {
+            if plan.task(task).region != region {
+                return true;
+            }
+            if !self.is_done(task) {
                 return false;
             }
         }

@@ -11,8 +11,8 @@ ghost use Rattle.dd_tables.specs.Places.{IsPlace};
 ghost use Rattle.dd_views.specs.IndexList.{index_list};
 ghost use Rattle.dd_views.specs.Views.{IsView};
 
-use crate::elements::{Element, writes_by};
-use crate::rows::{array_row, size, task_row};
+use crate::elements::Element;
+use crate::rows::size;
 use dd_blocks::Plan;
 use dd_spans::RunMap;
 use dd_views::View;
@@ -25,7 +25,7 @@ pub fn writes(plan: &Plan, task: u32, block: u32, i: u64) -> bool
     requires place { IsPlace plan.now block i }
     ensures { result ≡ writes plan.now task (element plan.now block i) }
 {
-    Element::at(plan, block, i).is_written_by(task_row(plan, task))
+    Element::at(plan, block, i).is_written_by(plan.task(task))
 }
 
 /// The version of a place of a block once a task is done.
@@ -81,11 +81,11 @@ pub fn write_current(plan: &Plan, current: &mut RunMap, task: u32)
         ≡ (if writes plan.now task e then task else current_of plan.now current.old.list e) }
     ensures len { length current.new.list ≡ length current.old.list }
 {
-    for access in task_row(plan, task).accesses.as_slice() {
-        if writes_by(access.mode) {
+    for access in plan.task(task).accesses.as_slice() {
+        if access.writes() {
             write_view(
                 current,
-                array_row(plan, access.view.array).first_element,
+                plan.array(access.view.array).first_element,
                 &access.view,
                 task,
             );

@@ -1,4 +1,4 @@
-use Rattle.std.proofs.Common.{◌≡◌, ℕ, true, sym, ◌∙◌, rules}
+use Rattle.std.proofs.Common.{◌≡◌, ℕ, true, rules}
 use Rattle.dd_copies.specs.CopyTables.{copies_of}
 use Rattle.dd_copies.proofs.CellsLemmas.{there_in}
 use Rattle.dd_machine.specs.Tests.{is_any, is_in_state}

@@ -1,4 +1,4 @@
-use Rattle.std.proofs.Common.{◌≡◌, ℕ, true, List, ap, ◌∙◌, sym, refl}
+use Rattle.std.proofs.Common.{◌≡◌, ℕ, true, ap, ◌∙◌, sym, refl}
 use Rattle.std.specs.List.{list_all}
 use Rattle.dd_blocks.specs.declared.task_row.TaskRow.{TaskRow}
 use Rattle.dd_blocks.specs.Numbered.{task_row}
@@ -19,6 +19,6 @@ pub returns : goal.returns
 returns c =
     let states = tasks_of c.args.tables.now.tasks.items in
     let p = λ (t : ℕ). is_done (states t) in
-    let is = c.are_done.ensures ∙ ap (list_all p) (c.as_slice.ensures ∙ ap (λ (t : TaskRow). t.deps) c.task_row.ensures) in
+    let is = c.are_done.ensures ∙ ap (list_all p) (c.as_slice.ensures ∙ ap (λ (t : TaskRow). t.deps) c.task.ensures) in
     let all = all_of p (task_row c.args.plan.now c.args.task).deps in
     ((λ t d has. done_is (states d) (all.0 (sym is ∙ t) d has)), (λ each. is ∙ all.1 (λ d has. ap is_done (each d has))))

@@ -1,9 +1,6 @@
-use Rattle.std.proofs.Common.{◌≡◌, ◌≢◌, ◌≤◌, ℕ, true, refl, sym, ap, ◌∙◌, arith, subst}
-use Rattle.dd_machine.specs.declared.task_state.TaskState.{TaskState}
-use Rattle.dd_machine.specs.declared.task_state.TaskState.TheVariants.{Running}
+use Rattle.std.proofs.Common.{refl, ap, ◌∙◌, arith}
 use Rattle.dd_machine.specs.Tests.{is_active}
 use Rattle.dd_machine.specs.Words.{proc_of}
-use Rattle.dd_tables.specs.Shares.{worker_at}
 use Rattle.dd_tables.specs.Tables.{tasks_of}
 use Rattle.dd_tables.proofs.WorkLemmas.{worker_of}
 use Rattle.dd_legal.proofs.running.is_free.Goals as goal

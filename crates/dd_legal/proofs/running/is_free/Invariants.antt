@@ -1,4 +1,4 @@
-use Rattle.std.proofs.Common.{◌≡◌, ◌≢◌, ◌≤◌, ℕ}
+use Rattle.std.proofs.Common.{◌≢◌, ◌≤◌, ℕ}
 use Rattle.dd_machine.specs.declared.task_state.TaskState.TheVariants.{Running}
 use Rattle.dd_tables.specs.Shares.{worker_at}
 use Rattle.dd_tables.specs.Tables.{tasks_of}

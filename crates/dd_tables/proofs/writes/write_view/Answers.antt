@@ -1,4 +1,4 @@
-use Rattle.std.proofs.Common.{◌≡◌, ◌<◌, ◌+◌, ◌^◌, ℕ, List, cond, get_or, length, set, ap, sym, ◌∙◌, arith, rules}
+use Rattle.std.proofs.Common.{◌<◌, ◌+◌, ◌^◌, ℕ, List, get_or, length, set, ap, ◌∙◌, arith, rules}
 use Rattle.dd_copies.proofs.CellsLemmas.{length_same}
 use Rattle.dd_spans.specs.PlaceMap.{PlaceMap}
 use Rattle.dd_views.specs.IndexList.{index_list}

@@ -1,4 +1,4 @@
-use Rattle.std.proofs.Common.{◌≡◌, rules}
+use Rattle.std.proofs.Common.{rules}
 use Rattle.dd_views.specs.IndexList.{index_list}
 use Rattle.dd_tables.proofs.ListsLemmas.{any_is}
 use Rattle.dd_tables.proofs.elements.Element.is_in.Goals as goal

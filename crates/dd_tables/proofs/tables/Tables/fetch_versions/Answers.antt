@@ -1,10 +1,10 @@
-use Rattle.std.proofs.Common.{◌≡◌, ◌<◌, ◌≤◌, ℕ, Bool, List, cond, get_or, length, set, ap, ◌∙◌, arith}
+use Rattle.std.proofs.Common.{◌<◌, ◌≤◌, ℕ, Bool, List, cond, get_or, length, set, ap, ◌∙◌, arith}
 use Rattle.dd_copies.proofs.CellsLemmas.{length_same}
-use Rattle.dd_machine.specs.Words.{element, size}
+use Rattle.dd_machine.specs.Words.{element}
 use Rattle.dd_spans.specs.PlaceMap.{PlaceMap}
 use Rattle.dd_tables.specs.Fetches.{is_fetched}
 use Rattle.dd_tables.specs.Tables.{state_of}
-use Rattle.dd_tables.proofs.VersionsLemmas.{so_far, so_far_all, so_far_at, so_far_more}
+use Rattle.dd_tables.proofs.VersionsLemmas.{so_far_all, so_far_at, so_far_more}
 use Rattle.dd_tables.proofs.tables.Tables.fetch_versions.Goals as goal
 
 pub loop-i-preserved : goal.loop-i-preserved

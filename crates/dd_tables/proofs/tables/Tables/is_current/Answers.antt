@@ -1,4 +1,4 @@
-use Rattle.std.proofs.Common.{sym, ◌∙◌, ap, ◌<◌, ◌≡◌, false}
+use Rattle.std.proofs.Common.{sym, ◌∙◌, ◌<◌}
 use Rattle.dd_machine.specs.Needed.{is_current_at}
 use Rattle.dd_machine.specs.Words.{size}
 use Rattle.dd_tables.specs.Tables.{state_of}

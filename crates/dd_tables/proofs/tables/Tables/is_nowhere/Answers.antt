@@ -1,4 +1,4 @@
-use Rattle.std.proofs.Common.{◌≡◌, ℕ, ap, true, false, sym, ◌∙◌, Option, Some, None}
+use Rattle.std.proofs.Common.{◌≡◌, ap, true, false, sym, ◌∙◌, Option, Some, None}
 use Rattle.std.proofs.lemmas.Bool.{false_from_ne_true}
 use Rattle.dd_copies.specs.CopyTables.{copies_of}
 use Rattle.dd_copies.proofs.CellsLemmas.{there_in}

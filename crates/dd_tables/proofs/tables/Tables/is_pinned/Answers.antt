@@ -1,8 +1,7 @@
-use Rattle.std.proofs.Common.{ap, sym, ◌∙◌, ◌||◌, Bool, rules}
+use Rattle.std.proofs.Common.{ap, sym, ◌∙◌, ◌||◌, Bool}
 use Rattle.std.specs.List.{list_any, range_with_len}
 use Rattle.dd_tables.specs.Tables.{state_of}
 use Rattle.dd_machine.specs.Bytes.{is_used}
-use Rattle.dd_machine.specs.Tests.{is_pin}
 use Rattle.dd_machine.specs.Words.{tasks}
 use Rattle.dd_tables.proofs.WorkLemmas.{used_by}
 use Rattle.dd_tables.proofs.tables.Tables.is_pinned.Goals as goal

@@ -1,9 +1,9 @@
-use Rattle.std.proofs.Common.{◌≡◌, ◌*◌, ◌^◌, ◌≤◌, length}
+use Rattle.std.proofs.Common.{◌≡◌, ◌*◌, ◌^◌, ◌≤◌}
 use Rattle.dd_copies.specs.CopyTables.{copies_of}
 use Rattle.dd_tables.specs.Tables.{state_of}
 use Rattle.dd_machine.specs.Bytes.{is_lent_into, when}
-use Rattle.dd_machine.specs.Tests.{is_held, is_in_state, is_lent}
-use Rattle.dd_machine.specs.Words.{blocks, bytes, spaces, total}
+use Rattle.dd_machine.specs.Tests.{is_in_state, is_lent}
+use Rattle.dd_machine.specs.Words.{bytes, total}
 use Rattle.dd_tables.proofs.tables.Tables.lent_from.Given as goal
 
 abbrev pub invariant-loop-i : goal.invariant-loop-i

@@ -1,6 +1,5 @@
-use Rattle.std.proofs.Common.{◌≡◌, ◌+◌, ap, sym, ◌∙◌, arith, ℕ}
+use Rattle.std.proofs.Common.{ap, ◌∙◌, arith, ℕ}
 use Rattle.dd_machine.specs.Bytes.{beside_bytes}
-use Rattle.dd_machine.specs.Words.{place}
 use Rattle.dd_tables.specs.Tables.{state_of}
 use Rattle.dd_tables.proofs.HeldLemmas.{pinned_with, reserved_held}
 use Rattle.dd_tables.proofs.tables.Tables.reserved_with.Goals as goal

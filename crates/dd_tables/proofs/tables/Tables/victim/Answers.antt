@@ -1,9 +1,9 @@
-use Rattle.std.proofs.Common.{List, ℕ, ap, sym, ◌∙◌, arith}
+use Rattle.std.proofs.Common.{ap, sym, ◌∙◌, arith}
 use Rattle.dd_recency.specs.Recency.{Recency}
 use Rattle.dd_recency.specs.Victim as recency
 use Rattle.dd_recency.specs.declared.policy.Policy.{Policy}
 use Rattle.dd_machine.specs.Bytes.{is_pinned, order_policy}
-use Rattle.dd_tables.specs.Tables.{orders_of, state_of}
+use Rattle.dd_tables.specs.Tables.{state_of}
 use Rattle.dd_tables.proofs.TablesLemmas.{order_read}
 use Rattle.dd_tables.proofs.tables.Tables.victim.Goals as goal
 
