@@ -16,13 +16,13 @@ use dd_changes::{add_front, move_copy, set_copy, without};
 use dd_copies::BlockCopy;
 use dd_tables::Tables;
 use dd_tables::rows::size;
-use std::alloc::{AllocError, Global};
+use std::alloc::AllocError;
 
 /// The pinned block is made at its home, of version 0.
 ///
 /// # Errors
 /// Want of memory. The tables are as before.
-pub fn put(alloc: Global, plan: &Plan, tables: &mut Tables, block: u32) -> Result<(), AllocError>
+pub fn put(plan: &Plan, tables: &mut Tables, block: u32) -> Result<(), AllocError>
     requires well { IsWellFormed plan.now }
     requires sized { IsSized plan.now tables.old }
     requires sound { IsSound plan.now (state_of plan.now tables.old) }
@@ -33,7 +33,7 @@ pub fn put(alloc: Global, plan: &Plan, tables: &mut Tables, block: u32) -> Resul
     ensures kept { OnErr result (state_of plan.now tables.new ≡ state_of plan.now tables.old) }
 {
     let home = tables.home_of(block);
-    let copy = BlockCopy::new(alloc, size(plan, block), 0)?;
+    let copy = BlockCopy::new(*tables.homes.allocator(), size(plan, block), 0)?;
     add_front(plan, tables, home, block)?;
     set_copy(plan, tables, home, block, Some(copy));
     advance(plan, tables);

@@ -25,12 +25,12 @@ pub fn begin(plan: &Plan, tables: &mut Tables, region: u32)
 }
 
 /// The open region ends, with everything at home.
-pub fn close(plan: &Plan, tables: &mut Tables, _region: u32)
+pub fn close(plan: &Plan, tables: &mut Tables, region: u32)
     requires well { IsWellFormed plan.now }
     requires sized { IsSized plan.now tables.old }
     requires sound { IsSound plan.now (state_of plan.now tables.old) }
-    requires may { MayClose plan.now (state_of plan.now tables.old) _region }
-    ensures value { state_of plan.now tables.new ≡ after plan.now (state_of plan.now tables.old) (Close _region) }
+    requires may { MayClose plan.now (state_of plan.now tables.old) region }
+    ensures value { state_of plan.now tables.new ≡ after plan.now (state_of plan.now tables.old) (Close region) }
     ensures sized { IsSized plan.now tables.new }
 {
     tables.region = None;
