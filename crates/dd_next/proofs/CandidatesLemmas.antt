@@ -1,8 +1,8 @@
--- The candidates of a task are the events that bring it on.
+-- The candidates of a task are the events that lead it on, but for its Claim.
 use Rattle.std.proofs.Common.{◌≡◌, ℕ, zero, suc, ◌<◌, ◌≤◌, Bool, true, false, cond, ◌||◌, eqb, List, [], ◌∷◌, ◌++◌, length, get_or, Option, Some, None, refl, ap, sym, ◌∙◌, subst, ⊎_elim, arith}
 use Rattle.std.specs.Prelude.{not, IfSome, IsNone}
 use Rattle.std.specs.List.{All, Contains, range_with_len}
-use Rattle.std.proofs.lemmas.Bool.{and_parts, eq-eqb, eqb-true, ne_eqb, or_cases}
+use Rattle.std.proofs.lemmas.Bool.{and_parts, cases_Bool, eq-eqb, eqb-true, ne_eqb, or_cases}
 use Rattle.std.proofs.lemmas.List.Elements.{All-append, All-cons, All-contains, All-contains_itself, All-map, All-nil, Contains-append_left, Contains-append_right}
 use Rattle.dd_lists.proofs.ListsLemmas.{All-flat_map, Contains-flat_map, Contains-map, has_number as has_number_of, number_in}
 use Rattle.dd_blocks.specs.declared.plan.Plan.{Plan}
@@ -14,9 +14,10 @@ use Rattle.dd_recency.proofs.VictimLemmas.{victim-among}
 use Rattle.dd_machine.specs.declared.copy_state.CopyState.{CopyState}
 use Rattle.dd_machine.specs.declared.copy_state.CopyState.TheVariants as state
 use Rattle.dd_machine.specs.declared.event.Event.{Event}
-use Rattle.dd_machine.specs.declared.event.Event.TheVariants.{Pick, Make, Call, Lend, Copy}
+use Rattle.dd_machine.specs.declared.event.Event.TheVariants.{Pick, Make, Call, Lend, Copy, Claim}
 use Rattle.dd_machine.specs.declared.task_state.TaskState.TheVariants.{Held}
 use Rattle.dd_machine.specs.Bytes.{is_pinned, load, order_policy, victim}
+use Rattle.dd_machine.specs.GoesOn.{LeadsHeldOn}
 use Rattle.dd_machine.specs.Legal.{May, MayCopy, MayFetch}
 use Rattle.dd_machine.specs.Needed.{is_needed, needed, own_space, source}
 use Rattle.dd_machine.specs.Sound.{IsSound}
@@ -27,7 +28,7 @@ use Rattle.dd_machine.specs.Words.{IsOneOf, blocks, element, limit, place, reads
 use Rattle.dd_machine.proofs.RangesLemmas.{kept_one}
 use Rattle.dd_machine.proofs.TestsLemmas.{passes_any}
 use Rattle.dd_tables.proofs.ListsLemmas.{any_range}
-use Rattle.dd_next.specs.Brings.{Brings}
+use Rattle.dd_next.specs.Claims.{is_claim}
 use Rattle.dd_next.specs.Candidates.{calls, candidates, copies, copies_of, copy_from, lends, lends_of, makes, picks, with_blocks}
 use Rattle.dd_next.specs.First.{IsFirstLegal}
 use Rattle.dd_next.proofs.FirstLemmas.{first_head, first_may, first_none, first_some, first_tail, none_legal, none_of_none, only_legal}
@@ -49,19 +50,19 @@ none_all plan st (x ∷ xs) none = ⊎_elim
     (λ (h : (May plan st x → ⊥) × IsFirstLegal plan st xs None). All-cons (λ event. May plan st event → ⊥) x xs h.0 (none_all plan st xs h.1))
     none
 
--- ---- each candidate brings the task on
-copy_brings : (plan : Plan) (st : State) (task block source : ℕ) → All (Brings plan st task) (copy_from plan st task block source)
-copy_brings plan st task block source = by (is_in_state is_here (st.copies source block)) refl
+-- ---- each candidate leads the task on
+copy_leads : (plan : Plan) (st : State) (task block source : ℕ) → All (LeadsHeldOn plan st task) (copy_from plan st task block source)
+copy_leads plan st task block source = by (is_in_state is_here (st.copies source block)) refl
   where
-    by : (t : Bool) → is_in_state is_here (st.copies source block) ≡ t → All (Brings plan st task) (cond t (Copy task block source (length (needed plan st task block source)) ∷ []) [])
-    by true is = All-cons (Brings plan st task) (Copy task block source (length (needed plan st task block source))) [] (refl, is) (All-nil (Brings plan st task))
-    by false is = All-nil (Brings plan st task)
+    by : (t : Bool) → is_in_state is_here (st.copies source block) ≡ t → All (LeadsHeldOn plan st task) (cond t (Copy task block source (length (needed plan st task block source)) ∷ []) [])
+    by true is = All-cons (LeadsHeldOn plan st task) (Copy task block source (length (needed plan st task block source))) [] (refl, is) (All-nil (LeadsHeldOn plan st task))
+    by false is = All-nil (LeadsHeldOn plan st task)
 
-pub all_bring : (plan : Plan) (st : State) (task : ℕ) → All (Brings plan st task) (candidates plan st task)
-all_bring plan st task =
+pub all_lead : (plan : Plan) (st : State) (task : ℕ) → All (LeadsHeldOn plan st task) (candidates plan st task)
+all_lead plan st task =
     let found = (task_row plan task).blocks in
     let space = place plan task in
-    let P = Brings plan st task in
+    let P = LeadsHeldOn plan st task in
     All-append P (picks plan space) (with_blocks plan st task found)
     (All-map P (λ b. Pick space b) (range_with_len 1 (blocks plan)) (λ k d lt. refl))
     (All-append P (makes task found) (calls space found ++ (copies plan st task found ++ lends plan task found))
@@ -70,7 +71,7 @@ all_bring plan st task =
     (All-map P (λ b. Call space b) found (λ k d lt. (refl, has_number_of found (get_or found k d) (All-contains_itself found k d lt))))
     (All-append P (copies plan st task found) (lends plan task found)
     (All-flat_map P (copies_of plan st task) found (λ k d lt.
-    All-flat_map P (copy_from plan st task (get_or found k d)) (range_with_len 1 (spaces plan)) (λ j x less. copy_brings plan st task (get_or found k d) (get_or (range_with_len 1 (spaces plan)) j x))))
+    All-flat_map P (copy_from plan st task (get_or found k d)) (range_with_len 1 (spaces plan)) (λ j x less. copy_leads plan st task (get_or found k d) (get_or (range_with_len 1 (spaces plan)) j x))))
     (All-flat_map P (lends_of plan task) found (λ k d lt. All-map P (λ s. Lend task (get_or found k d) s) (range_with_len 1 (spaces plan)) (λ j x less. refl))))))
 
 -- ---- each legal event that does is a candidate
@@ -102,60 +103,64 @@ copy_there plan st task block source here =
     let event = Copy task block source (length (needed plan st task block source)) in
     subst (λ (t : Bool). Contains (cond t (event ∷ []) []) event) (sym here) (All-contains_itself (event ∷ []) 0 event (omega arith))
 
-is_candidate : (plan : Plan) (st : State) (task : ℕ) (event : Event) → IsWellFormed plan → IsSound plan st → IsOneOf (tasks plan) task → Brings plan st task event → May plan st event → Contains (candidates plan st task) event
-is_candidate plan st task (Pick space block) well sound is brings may =
+is_candidate : (plan : Plan) (st : State) (task : ℕ) (event : Event) → IsWellFormed plan → IsSound plan st → IsOneOf (tasks plan) task → is_claim event ≡ false → LeadsHeldOn plan st task event → May plan st event → Contains (candidates plan st task) event
+is_candidate plan st task (Pick space block) well sound is other leads may =
     let known = picked_known plan st space block sound may.is_victim in
-    subst (λ (s : ℕ). Contains (candidates plan st task) (Pick s block)) (sym brings)
+    subst (λ (s : ℕ). Contains (candidates plan st task) (Pick s block)) (sym leads)
     (Contains-append_left (picks plan (place plan task)) (with_blocks plan st task (task_row plan task).blocks) (Pick (place plan task) block)
     (Contains-map (λ b. Pick (place plan task) b) (range_with_len 1 (blocks plan)) block (in_range (blocks plan) block known)))
-is_candidate plan st task (Make t block) well sound is brings may =
+is_candidate plan st task (Make t block) well sound is other leads may =
     let found = (task_row plan task).blocks in
-    let has : touches plan task block ≡ true = subst (λ (x : ℕ). touches plan x block ≡ true) brings may.touched in
-    subst (λ (x : ℕ). Contains (candidates plan st task) (Make x block)) (sym brings)
+    let has : touches plan task block ≡ true = subst (λ (x : ℕ). touches plan x block ≡ true) leads may.touched in
+    subst (λ (x : ℕ). Contains (candidates plan st task) (Make x block)) (sym leads)
     (Contains-append_right (picks plan (place plan task)) (with_blocks plan st task found) (Make task block)
     (Contains-append_left (makes task found) (calls (place plan task) found ++ (copies plan st task found ++ lends plan task found)) (Make task block)
     (Contains-map (λ b. Make task b) found block (number_in found block has))))
-is_candidate plan st task (Call space block) well sound is brings may =
+is_candidate plan st task (Call space block) well sound is other leads may =
     let found = (task_row plan task).blocks in
     let here = place plan task in
-    subst (λ (s : ℕ). Contains (candidates plan st task) (Call s block)) (sym brings.0)
+    subst (λ (s : ℕ). Contains (candidates plan st task) (Call s block)) (sym leads.0)
     (Contains-append_right (picks plan here) (with_blocks plan st task found) (Call here block)
     (Contains-append_right (makes task found) (calls here found ++ (copies plan st task found ++ lends plan task found)) (Call here block)
     (Contains-append_left (calls here found) (copies plan st task found ++ lends plan task found) (Call here block)
-    (Contains-map (λ b. Call here b) found block (number_in found block brings.1)))))
-is_candidate plan st task (Copy t block source count) well sound is brings may =
+    (Contains-map (λ b. Call here b) found block (number_in found block leads.1)))))
+is_candidate plan st task (Copy t block source count) well sound is other leads may =
     let found = (task_row plan task).blocks in
     let here = place plan task in
-    let exact : count ≡ length (needed plan st task block source) = may.1.exact ∙ ap (λ (x : ℕ). length (needed plan st x block source)) brings.0 in
+    let exact : count ≡ length (needed plan st task block source) = may.1.exact ∙ ap (λ (x : ℕ). length (needed plan st x block source)) leads.0 in
     let some : 0 < length (needed plan st task block source) = subst (λ (n : ℕ). 0 < n) exact may.1.some_needed in
     let event = Copy task block source (length (needed plan st task block source)) in
-    let same : event ≡ Copy t block source count = ap (λ (n : ℕ). Copy task block source n) (sym exact) ∙ ap (λ (x : ℕ). Copy x block source count) (sym brings.0) in
+    let same : event ≡ Copy t block source count = ap (λ (n : ℕ). Copy task block source n) (sym exact) ∙ ap (λ (x : ℕ). Copy x block source count) (sym leads.0) in
     subst (Contains (candidates plan st task)) same
     (Contains-append_right (picks plan here) (with_blocks plan st task found) event
     (Contains-append_right (makes task found) (calls here found ++ (copies plan st task found ++ lends plan task found)) event
     (Contains-append_right (calls here found) (copies plan st task found ++ lends plan task found) event
     (Contains-append_left (copies plan st task found) (lends plan task found) event
     (Contains-flat_map (copies_of plan st task) found block event (number_in found block (touched plan st task block source well is some))
-    (Contains-flat_map (copy_from plan st task block) (range_with_len 1 (spaces plan)) source event (in_range (spaces plan) source may.1.source_is) (copy_there plan st task block source brings.1)))))))
-is_candidate plan st task (Lend t block source) well sound is brings may =
+    (Contains-flat_map (copy_from plan st task block) (range_with_len 1 (spaces plan)) source event (in_range (spaces plan) source may.1.source_is) (copy_there plan st task block source leads.1)))))))
+is_candidate plan st task (Lend t block source) well sound is other leads may =
     let found = (task_row plan task).blocks in
     let here = place plan task in
-    let some : 0 < length (needed plan st task block source) = subst (λ (x : ℕ). 0 < length (needed plan st x block source)) brings may.some_needed in
+    let some : 0 < length (needed plan st task block source) = subst (λ (x : ℕ). 0 < length (needed plan st x block source)) leads may.some_needed in
     let event = Lend task block source in
-    subst (λ (x : ℕ). Contains (candidates plan st task) (Lend x block source)) (sym brings)
+    subst (λ (x : ℕ). Contains (candidates plan st task) (Lend x block source)) (sym leads)
     (Contains-append_right (picks plan here) (with_blocks plan st task found) event
     (Contains-append_right (makes task found) (calls here found ++ (copies plan st task found ++ lends plan task found)) event
     (Contains-append_right (calls here found) (copies plan st task found ++ lends plan task found) event
     (Contains-append_right (copies plan st task found) (lends plan task found) event
     (Contains-flat_map (lends_of plan task) found block event (number_in found block (touched plan st task block source well is some))
     (Contains-map (λ s. Lend task block s) (range_with_len 1 (spaces plan)) source (in_range (spaces plan) source may.source_is)))))))
-is_candidate plan st task _ well sound is brings may = absurd brings
+is_candidate plan st task (Claim t worker) well sound is other leads may = absurd cc
+is_candidate plan st task _ well sound is other leads may = absurd leads
 
--- where none of them is legal, nothing that brings the task on is
-pub none_brings : (plan : Plan) (st : State) (task : ℕ) (event : Event) → IsWellFormed plan → IsSound plan st → IsOneOf (tasks plan) task
-    → IsFirstLegal plan st (candidates plan st task) None → Brings plan st task event → May plan st event → ⊥
-none_brings plan st task event well sound is none brings may =
-    All-contains (λ e. May plan st e → ⊥) (candidates plan st task) event (none_all plan st (candidates plan st task) none) (is_candidate plan st task event well sound is brings may) may
+-- where none of them is legal, nothing that leads the task on is but its Claim
+none_leads : (plan : Plan) (st : State) (task : ℕ) (event : Event) → IsWellFormed plan → IsSound plan st → IsOneOf (tasks plan) task
+    → IsFirstLegal plan st (candidates plan st task) None → LeadsHeldOn plan st task event → May plan st event → is_claim event ≡ true
+none_leads plan st task event well sound is none leads may = ⊎_elim
+    (λ (claim : is_claim event ≡ true). claim)
+    (λ (other : is_claim event ≡ false).
+    absurd (All-contains (λ e. May plan st e → ⊥) (candidates plan st task) event (none_all plan st (candidates plan st task) none) (is_candidate plan st task event well sound is other leads may) may))
+    (cases_Bool (is_claim event))
 
 -- a Held task is one of the Plan
 pub held_known : (plan : Plan) (st : State) (task : ℕ) → IsSound plan st → st.tasks task ≡ Held → IsOneOf (tasks plan) task
@@ -272,11 +277,11 @@ from_blocks plan st task space found result is same none rest =
     (subst (λ (xs : List ℕ). IsFirstLegal plan st (with_blocks plan st task xs) result) same rest)
 
 -- ---- what the first of all is
-pub found_brings : (plan : Plan) (st : State) (task : ℕ) (result : Option Event) → IsFirstLegal plan st (candidates plan st task) result → IfSome result (λ event. Brings plan st task event × May plan st event)
-found_brings plan st task None first = tt
-found_brings plan st task (Some event) first = (some_has plan st (Brings plan st task) (candidates plan st task) event (all_bring plan st task) first, first_may plan st (candidates plan st task) event first)
+pub found_leads : (plan : Plan) (st : State) (task : ℕ) (result : Option Event) → IsFirstLegal plan st (candidates plan st task) result → IfSome result (λ event. LeadsHeldOn plan st task event × May plan st event)
+found_leads plan st task None first = tt
+found_leads plan st task (Some event) first = (some_has plan st (LeadsHeldOn plan st task) (candidates plan st task) event (all_lead plan st task) first, first_may plan st (candidates plan st task) event first)
 
 pub none_found : (plan : Plan) (st : State) (task : ℕ) (result : Option Event) → IsWellFormed plan → IsSound plan st → st.tasks task ≡ Held → IsFirstLegal plan st (candidates plan st task) result
-    → IsNone result → (event : Event) → Brings plan st task event → May plan st event → ⊥
-none_found plan st task None well sound held first none event brings may = none_brings plan st task event well sound (held_known plan st task sound held) first brings may
-none_found plan st task (Some found) well sound held first none event brings may = absurd (let no_way : true ≡ false = none in cc)
+    → IsNone result → (event : Event) → LeadsHeldOn plan st task event → May plan st event → is_claim event ≡ true
+none_found plan st task None well sound held first none event leads may = none_leads plan st task event well sound (held_known plan st task sound held) first leads may
+none_found plan st task (Some found) well sound held first none event leads may = absurd (let no_way : true ≡ false = none in cc)

@@ -1,3 +1,3 @@
 pub mod First
 pub mod Candidates
-pub mod Brings
+pub mod Claims

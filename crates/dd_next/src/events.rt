@@ -1,14 +1,15 @@
 //! The first of all.
-ghost use Rattle.std.specs.Prelude.{◌≡◌, All, IfSome, IsNone};
+ghost use Rattle.std.specs.Prelude.{◌≡◌, true, All, IfSome, IsNone};
 ghost use Rattle.dd_blocks.specs.Numbered.{task_row};
 ghost use Rattle.dd_blocks.specs.WellFormed.{IsWellFormed};
 ghost use Rattle.dd_machine.specs.declared.event.Event.{Event as OneEvent};
 ghost use Rattle.dd_machine.specs.declared.task_state.TaskState.TheVariants.{Held};
+ghost use Rattle.dd_machine.specs.GoesOn.{LeadsHeldOn};
 ghost use Rattle.dd_machine.specs.Legal.{May};
 ghost use Rattle.dd_machine.specs.Sound.{IsSound};
 ghost use Rattle.dd_machine.specs.Words.{IsOneOf, blocks, tasks};
-ghost use Rattle.dd_next.specs.Brings.{Brings};
 ghost use Rattle.dd_next.specs.Candidates.{candidates, with_blocks};
+ghost use Rattle.dd_next.specs.Claims.{is_claim};
 ghost use Rattle.dd_next.specs.First.{IsFirstLegal};
 ghost use Rattle.dd_tables.specs.Sized.{IsSized};
 ghost use Rattle.dd_tables.specs.Tables.{state_of, tasks_of};
@@ -59,8 +60,8 @@ fn first_of(tables: &Tables, plan: &Plan, task: u32) -> Option<Event>
     }
 }
 
-/// The event that leads a Held task on: the first legal one of its candidates. None comes exactly where no event brings it
-/// closer to its Claim. It takes no memory.
+/// The event that leads a Held task on: the first legal one of its candidates. None comes exactly where nothing leads it on but
+/// its Claim, if that is legal. It takes no memory.
 pub fn next_for(tables: &Tables, plan: &Plan, task: u32) -> Option<Event>
     requires well { IsWellFormed plan.now }
     requires sized { IsSized plan.now tables.now }
@@ -68,10 +69,10 @@ pub fn next_for(tables: &Tables, plan: &Plan, task: u32) -> Option<Event>
     requires held { (state_of plan.now tables.now).tasks task ≡ Held }
     ensures first { IsFirstLegal plan.now (state_of plan.now tables.now)
         (candidates plan.now (state_of plan.now tables.now) task) result }
-    ensures brings { IfSome result (λ event. Brings plan.now (state_of plan.now tables.now) task event
+    ensures leads { IfSome result (λ event. LeadsHeldOn plan.now (state_of plan.now tables.now) task event
         × May plan.now (state_of plan.now tables.now) event) }
-    ensures none { IsNone result → (event : OneEvent) → Brings plan.now (state_of plan.now tables.now) task event
-        → May plan.now (state_of plan.now tables.now) event → ⊥ }
+    ensures none { IsNone result → (event : OneEvent) → LeadsHeldOn plan.now (state_of plan.now tables.now) task event
+        → May plan.now (state_of plan.now tables.now) event → is_claim event ≡ true }
 {
     first_of(tables, plan, task)
 }
