@@ -18,14 +18,12 @@
 //! as the list of its values, and its spare: how many runs more it has memory for. A run that is set can split another
 //! in three, so setting one uses up to two of them, and takes no memory: [`RunMap::reserve`] takes it beforehand.
 //!
-//! Sorting n numbers costs n log n, and writing down those of a run n. `meet`, `minus` and `union` go through both lists
-//! once. `has` and the start of `next_run` are binary searches, and the run is counted number by number. `set_run` writes each
-//! place of the run, and `same_until` reads each.
+//! Sorting n numbers costs n log n. `meet`, `minus` and `union` go through both lists once. `has` and the start of `next_run`
+//! are binary searches. Runs are gone through number by number, or place by place.
 //!
-//! Inside, [`Runs`] keeps a vector of its numbers, and [`RunMap`] a vector with one value a place, and its spare as a count,
-//! so that `reserve` takes nothing. `sets` makes and merges sorted lists, `cut` has where one is cut at a number, and `run`
-//! how far its numbers follow each other. What holds of sorted numbers as a whole stands in [`laws`]. The definition of
-//! `specs/Kept.antt` is cited by private contracts alone.
+//! Inside, [`Runs`] is a vector of its numbers, and [`RunMap`] one of a value for each place, with its spare as a count. `sets`
+//! merges sorted lists, `cut` cuts one at a number, `run` counts how far numbers follow each other, and [`laws`] has what
+//! holds of all sorted numbers. Private contracts alone cite `specs/Kept.antt`.
 #![tactic(auto)]
 
 mod cut;
