@@ -1,4 +1,27 @@
 //! Whether two views share an element.
+//!
+//! # Common rows
+//! The rows of a view are numbers in steps: `a + s·i`. Those of both views are too: the first of them is the least solution of
+//! two congruences, and their step is the least common multiple of both steps. So it is with the columns.
+//!
+//! # One common column
+//! A column of a part keeps rows that stand one after the other, from the diagonal on or up to it. So each view keeps the
+//! rows between two numbers, and both keep a common row where one lies between the greater of the two low numbers
+//! and the lesser of the two high ones.
+//!
+//! # All common columns
+//! The row on the diagonal moves by as much from each common column to the next. Let g be the greatest common divisor of this way
+//! and of the rows' step. The numbers that differ from a common row by multiples of g are as far from the diagonal in each column, and
+//! no common row is nearer. So the four numbers move evenly: where one view ends below the other in the first and in the
+//! last common column, it does so in each between.
+//!
+//! # Cost
+//! Views whose least and greatest rows or columns keep them apart are refused by these alone, and whole views in
+//! steps of 1 or -1 are accepted so. Else there are six Euclidean algorithms, mostly of a step or two. Then some products, and
+//! seldom a division, answer for the first and the last common column, or row where these are fewer. That decides
+//! for whole views, mostly for parallel diagonals, and for parts that are apart or share a row in one of the two. Else each
+//! half of the columns between is asked the same, one before the other, until a shared element is found: parts that
+//! cross take about as many steps as halvings.
 ghost use Rattle.std.specs.Prelude.{◌≡◌, ℕ, ◌≤◌, ◌<◌, ◌↔◌, IsTrue};
 ghost use Rattle.dd_views.specs.Views.{IsView};
 ghost use Rattle.dd_alias.specs.Lines.{AreApartAt, IsBelow, IsTurn, IsWithin, KeepBoth, MeetBetween, StaysBelow};

@@ -1,6 +1,7 @@
 -- The tokens of a line: its longest pieces, in order.
 use Rattle.std.specs.Prelude.{◌≡◌, ℕ, ◌+◌, Bool, true, false, not, ◌==◌, ◌&&◌, nat_le, List, [], ◌∷◌, drop, Option, Some, None, slice_index, if◌then◌else◌}
 use Rattle.std.specs.List.{prefix_len, list_all}
+use Rattle.dd_tokens.specs.declared.front.TheConstants.{WORD_LIMIT}
 use Rattle.dd_tokens.specs.declared.token.Token.{Token}
 use Rattle.dd_tokens.specs.declared.token.TokenKind.{TokenKind}
 use Rattle.dd_tokens.specs.declared.token.TokenKind.TheVariants.{Word, Number, Mark}
@@ -15,7 +16,7 @@ begins test (b ∷ bs) = test b
 
 -- the most bytes of a word
 abbrev pub word_limit : ℕ
-word_limit = 64
+word_limit = WORD_LIMIT
 
 -- a word at the front: a letter, and all letters and digits after it
 abbrev pub word_len : List ℕ → Option ℕ

@@ -7,8 +7,8 @@ ghost use Rattle.dd_tokens.specs.Tokens.{begins, front_token, number_len};
 use crate::byte::{digits_len, is_letter, is_mark, word_bytes_len};
 use crate::token::TokenKind;
 
-/// The most bytes that a word may have.
-const LONGEST_WORD: usize = 64;
+/// The most bytes of a word.
+const WORD_LIMIT: usize = 64;
 
 /// The kind of the token at the front and how many bytes it takes, or `None` where no token stands there.
 pub(crate) fn front_token(bytes: &[u8]) -> Option<(TokenKind, usize)>
@@ -19,7 +19,7 @@ pub(crate) fn front_token(bytes: &[u8]) -> Option<(TokenKind, usize)>
         Some((TokenKind::Mark, 1))
     } else if begins_with_letter(bytes) {
         let len = word_bytes_len(bytes);
-        (len <= LONGEST_WORD).then_some((TokenKind::Word, len))
+        (len <= WORD_LIMIT).then_some((TokenKind::Word, len))
     } else {
         number_len(bytes).map(|len| (TokenKind::Number, len))
     }

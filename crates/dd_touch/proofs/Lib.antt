@@ -1,4 +1,4 @@
-pub mod PieceLemmas
+pub mod StripLemmas
 pub mod TouchedLemmas
 pub mod TouchedPlanLemmas
 pub mod SmallLemmas

@@ -13,7 +13,7 @@ use Rattle.dd_views.proofs.ElementsLemmas.{IsElement, contained, found, number_l
 use Rattle.dd_blocks.specs.declared.array_row.ArrayRow.{ArrayRow}
 use Rattle.dd_blocks.specs.Grids.{block_cols, block_count, block_of, block_rows, col_of, row_of}
 use Rattle.dd_blocks.specs.Tasks.{shape_in}
-use Rattle.dd_touch.specs.Pieces.{AreKept, IsSlice, piece_at}
+use Rattle.dd_touch.specs.Strips.{AreKept, IsSlice, strip_at}
 use Rattle.dd_touch.specs.Touching.{Adds, Between, HasSmallNumbers, IsBlockAt, IsTouchedBy, IsTouchedIn, number_of_block}
 
 adds_one : (xs : List ℕ) (y z : ℕ) → z ≡ y → Adds (λ n. y ≡ n) xs (xs ++ z ∷ [])
@@ -64,49 +64,49 @@ between_on P low i end high le before within alike n = (
 )
 
 -- the block of a slice of the rows is added
-pub adds_slice : (array : ArrayRow) (rows : Span3) (col low place high piece end z : ℕ) (a b : List ℕ) → low ≤ place → place < high → IsSlice rows array.grid.brows place piece end → z ≡ number_of_block array piece col
+pub adds_slice : (array : ArrayRow) (rows : Span3) (col low place high strip end z : ℕ) (a b : List ℕ) → low ≤ place → place < high → IsSlice rows array.grid.brows place strip end → z ≡ number_of_block array strip col
     → Adds (Between (IsBlockAt array rows col) low (min place high)) a b → Adds (Between (IsBlockAt array rows col) low (min end high)) a (b ++ z ∷ [])
-adds_slice array rows col low place high piece end z a b le lt slice is so_far =
+adds_slice array rows col low place high strip end z a b le lt slice is so_far =
     let P : ℕ → ℕ → Type 0 = IsBlockAt array rows col in
-    let here : z ≡ number_of_block array (piece_at rows array.grid.brows place) col = omega (arith, is, slice.each place (omega arith) slice.some) in
+    let here : z ≡ number_of_block array (strip_at rows array.grid.brows place) col = omega (arith, is, slice.each place (omega arith) slice.some) in
     adds_both (Between P low (min place high)) (P place) (Between P low (min end high)) a b (b ++ z ∷ [])
     (between_on P low place end high le slice.some lt (λ k n from to.
-    let same : number_of_block array (piece_at rows array.grid.brows k) col ≡ number_of_block array (piece_at rows array.grid.brows place) col = omega (arith, slice.each k from to, slice.each place (omega arith) slice.some) in
+    let same : number_of_block array (strip_at rows array.grid.brows k) col ≡ number_of_block array (strip_at rows array.grid.brows place) col = omega (arith, slice.each k from to, slice.each place (omega arith) slice.some) in
     ((λ (p : P k n). sym same ∙ p), (λ (p : P place n). same ∙ p))))
     so_far
-    (adds_one b (number_of_block array (piece_at rows array.grid.brows place) col) z here)
+    (adds_one b (number_of_block array (strip_at rows array.grid.brows place) col) z here)
 
 -- the blocks of a slice of the columns are those of the rows that the part keeps in it
-column_on : (array : ArrayRow) (view : View) (place piece end low high : ℕ) → 1 ≤ place → IsSlice view.cols array.grid.bcols place piece end → AreKept view.part place end view.rows.count low high
-    → (n : ℕ) → Between (IsTouchedIn array view) 1 end n ↔ (Between (IsTouchedIn array view) 1 place n ⊎ Between (IsBlockAt array view.rows piece) low high n)
-column_on array view place piece end low high some slice kept n = (there, back)
+column_on : (array : ArrayRow) (view : View) (place strip end low high : ℕ) → 1 ≤ place → IsSlice view.cols array.grid.bcols place strip end → AreKept view.part place end view.rows.count low high
+    → (n : ℕ) → Between (IsTouchedIn array view) 1 end n ↔ (Between (IsTouchedIn array view) 1 place n ⊎ Between (IsBlockAt array view.rows strip) low high n)
+column_on array view place strip end low high some slice kept n = (there, back)
   where
-    there : Between (IsTouchedIn array view) 1 end n → Between (IsTouchedIn array view) 1 place n ⊎ Between (IsBlockAt array view.rows piece) low high n
+    there : Between (IsTouchedIn array view) 1 end n → Between (IsTouchedIn array view) 1 place n ⊎ Between (IsBlockAt array view.rows strip) low high n
     there has = ⊎_elim
         (λ (lt : has.0 < place). inl (has.0, has.1, lt, has.3))
         (λ (ge : place ≤ has.0).
         let i = has.3.0 in
-        let of_slice : piece_at view.cols array.grid.bcols has.0 ≡ piece = slice.each has.0 ge has.2 in
+        let of_slice : strip_at view.cols array.grid.bcols has.0 ≡ strip = slice.each has.0 ge has.2 in
         let rows = (kept.exact i has.3.1 has.3.2).1 (has.0, ge, has.2, has.3.3) in
         inr (i, rows.0, rows.1, subst (λ (c : ℕ). IsBlockAt array view.rows c i n) of_slice has.3.4))
         (cases_lt has.0 place)
 
-    back : Between (IsTouchedIn array view) 1 place n ⊎ Between (IsBlockAt array view.rows piece) low high n → Between (IsTouchedIn array view) 1 end n
+    back : Between (IsTouchedIn array view) 1 place n ⊎ Between (IsBlockAt array view.rows strip) low high n → Between (IsTouchedIn array view) 1 end n
     back either = ⊎_elim
         (λ (has : Between (IsTouchedIn array view) 1 place n). (has.0, has.1, omega (arith, has.2, slice.some), has.3))
-        (λ (has : Between (IsBlockAt array view.rows piece) low high n).
+        (λ (has : Between (IsBlockAt array view.rows strip) low high n).
         let i = has.0 in
         let above : 1 ≤ i = omega (arith, has.1, kept.some) in
         let within : i ≤ view.rows.count = omega (arith, has.2, kept.end) in
         let col = (kept.exact i above within).0 (has.1, has.2) in
-        let of_slice : piece_at view.cols array.grid.bcols col.0 ≡ piece = slice.each col.0 col.1 col.2 in
+        let of_slice : strip_at view.cols array.grid.bcols col.0 ≡ strip = slice.each col.0 col.1 col.2 in
         (col.0, omega (arith, some, col.1), col.2, (i, above, within, col.3, subst (λ (c : ℕ). IsBlockAt array view.rows c i n) (sym of_slice) has.3)))
         either
 
-pub adds_column : (array : ArrayRow) (view : View) (place piece end low high : ℕ) (a b c : List ℕ) → 1 ≤ place → IsSlice view.cols array.grid.bcols place piece end → AreKept view.part place end view.rows.count low high
-    → Adds (Between (IsTouchedIn array view) 1 place) a b → Adds (Between (IsBlockAt array view.rows piece) low high) b c → Adds (Between (IsTouchedIn array view) 1 end) a c
-adds_column array view place piece end low high a b c some slice kept so_far next =
-    adds_both (Between (IsTouchedIn array view) 1 place) (Between (IsBlockAt array view.rows piece) low high) (Between (IsTouchedIn array view) 1 end) a b c (column_on array view place piece end low high some slice kept) so_far next
+pub adds_column : (array : ArrayRow) (view : View) (place strip end low high : ℕ) (a b c : List ℕ) → 1 ≤ place → IsSlice view.cols array.grid.bcols place strip end → AreKept view.part place end view.rows.count low high
+    → Adds (Between (IsTouchedIn array view) 1 place) a b → Adds (Between (IsBlockAt array view.rows strip) low high) b c → Adds (Between (IsTouchedIn array view) 1 end) a c
+adds_column array view place strip end low high a b c some slice kept so_far next =
+    adds_both (Between (IsTouchedIn array view) 1 place) (Between (IsBlockAt array view.rows strip) low high) (Between (IsTouchedIn array view) 1 end) a b c (column_on array view place strip end low high some slice kept) so_far next
 
 -- the numbers of blocks fit
 pub number_fits : (array : ArrayRow) (i j : ℕ) → HasSmallNumbers array → i < block_rows array.grid → j < block_cols array.grid → number_of_block array i j < array.first_block + block_count array.grid
@@ -114,7 +114,7 @@ number_fits array i j small row col = omega (arith, mul-add-lt j (block_rows arr
 
 -- the block of an element by the places of its row and its column
 block_at : (array : ArrayRow) (view : View) (i k pos : ℕ) → IsViewOf (shape_in array) view → IsElement (position view) view.part view.rows.count view.cols.count pos i k
-    → number_of_block array (piece_at view.rows array.grid.brows i) (piece_at view.cols array.grid.bcols k) ≡ array.first_block + block_of array.grid pos
+    → number_of_block array (strip_at view.rows array.grid.brows i) (strip_at view.cols array.grid.bcols k) ≡ array.first_block + block_of array.grid pos
 block_at array view i k pos is_view element =
     let at = numbers view pos i k (shape_in array, is_view) element in
     let row : number_at_place view.rows i - 1 ≡ row_of array.grid pos = omega (arith, at.row, ap (λ (h : ℕ). pos % h) is_view.height) in

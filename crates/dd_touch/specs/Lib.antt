@@ -1,3 +1,3 @@
-pub mod Pieces
+pub mod Strips
 pub mod Touching
 pub mod Small

@@ -8,7 +8,7 @@ use Rattle.dd_blocks.specs.declared.array_row.ArrayRow.{ArrayRow}
 use Rattle.dd_blocks.specs.declared.plan.Plan.{Plan}
 use Rattle.dd_blocks.specs.Charges.{block_with}
 use Rattle.dd_blocks.specs.Grids.{IsGrid, block_count, block_of, block_rows}
-use Rattle.dd_touch.specs.Pieces.{piece_at}
+use Rattle.dd_touch.specs.Strips.{strip_at}
 
 -- an array whose rows, columns and blocks have numbers of 32 bits
 pub record HasSmallNumbers (array : ArrayRow) : Type 0 where
@@ -27,12 +27,12 @@ Between P low high n = (i : ℕ) × (low ≤ i) × (i < high) × P i n
 
 -- the number is that of the block in a column of blocks in which the row at the place i lies
 abbrev pub IsBlockAt : ArrayRow → Span3 → ℕ → ℕ → ℕ → Type 0
-IsBlockAt array rows col i n = number_of_block array (piece_at rows array.grid.brows i) col ≡ n
+IsBlockAt array rows col i n = number_of_block array (strip_at rows array.grid.brows i) col ≡ n
 
 -- the number is that of a block in which the view has an element of the column at the place k
 abbrev pub IsTouchedIn : ArrayRow → View → ℕ → ℕ → Type 0
 IsTouchedIn array view k n =
-    (i : ℕ) × (1 ≤ i) × (i ≤ view.rows.count) × (keeps view.part i k ≡ true) × IsBlockAt array view.rows (piece_at view.cols array.grid.bcols k) i n
+    (i : ℕ) × (1 ≤ i) × (i ≤ view.rows.count) × (keeps view.part i k ≡ true) × IsBlockAt array view.rows (strip_at view.cols array.grid.bcols k) i n
 
 -- the number is that of a block in which the view has an element
 abbrev pub IsTouchedBy : ArrayRow → View → ℕ → Type 0

@@ -8,6 +8,7 @@ ghost use Rattle.dd_blocks.specs.Limits.{blocks_limit, elements_limit};
 ghost use Rattle.dd_blocks.specs.Numbered.{IsNumberIn, block_row};
 ghost use Rattle.dd_touch.specs.Small.{IsSmallAccess};
 
+use dd_blocks::limits::ELEMENT_BYTES;
 use dd_blocks::{AccessRow, Plan};
 
 /// How many elements some accesses have.
@@ -33,7 +34,7 @@ pub fn charge_of(plan: &Plan, accesses: &[AccessRow], blocks: &[u32]) -> u64
     ensures { (task : TaskRow) → task.accesses ≡ accesses.now → task.blocks ≡ blocks.now → result ≡ charge_of plan.now task }
 {
     let scratch = u64::from(largest(plan, blocks));
-    8 * (copied(plan, blocks) + access_elements(accesses) + scratch)
+    ELEMENT_BYTES * (copied(plan, blocks) + access_elements(accesses) + scratch)
 }
 
 /// How many elements some blocks have.

@@ -9,14 +9,14 @@
 //! do its columns; a division gives the last of them. So a view costs some divisions for each block that it touches and for
 //! each column of blocks that its columns lie in. Only the list of blocks takes memory.
 //!
-//! Inside, `pieces` goes from one piece of an edge to the next, `places` has the rows that a part keeps in some columns,
+//! Inside, `strips` goes from one strip of an edge to the next, `places` has the rows that a part keeps in some columns,
 //! `touched` goes through the columns of blocks, and `charge` adds up. What a task touches and takes is defined in
 //! `dd_blocks`; the definitions here are cited by private contracts alone.
 #![tactic(auto)]
 
 mod charge;
-mod pieces;
 mod places;
+mod strips;
 mod touched;
 
 pub use charge::{access_elements, charge_of};

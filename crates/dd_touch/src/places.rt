@@ -1,6 +1,6 @@
 //! The places of rows and columns in a view.
 ghost use Rattle.std.specs.Prelude.{◌≡◌, ◌≢◌, ◌+◌, ◌<◌, ◌≤◌, ◌^◌};
-ghost use Rattle.dd_touch.specs.Pieces.{AreKept};
+ghost use Rattle.dd_touch.specs.Strips.{AreKept};
 
 use dd_views::Part;
 
@@ -11,7 +11,7 @@ pub(crate) struct Places {
     pub(crate) high: u64,
 }
 
-/// The places of the rows, of `rows` of them, that a part keeps in one or another of some columns.
+/// The places of the rows that a part keeps in at least one of some columns. There are `rows` rows.
 pub(crate) fn kept_in(part: Part, cols: Places, rows: u32) -> Places
     requires low { 1 ≤ cols.low }
     requires some { cols.low < cols.high }

@@ -12,8 +12,8 @@ ghost use Rattle.dd_blocks.specs.WellFormed.{HasSmallEdges};
 ghost use Rattle.dd_blocks.specs.OfPlan.{HasBlocks, IsOfPlan};
 ghost use Rattle.dd_touch.specs.Touching.{Adds, AreOf, Between, HasSmallNumbers, HoldsSome, IsBlockAt, IsTouchedBy, number_of_block};
 
-use crate::pieces::slice_from;
 use crate::places::{Places, kept_in};
+use crate::strips::slice_from;
 use dd_blocks::{AccessRow, ArrayRow, Plan};
 use dd_views::{Span3, View};
 use std::alloc::{AllocError, Global};
@@ -51,9 +51,7 @@ fn touched_in_turn(
 {
     let mut blocks = Vec::new(alloc);
     for access in accesses {
-        if let Err(fault) = add_access(&mut blocks, plan, access) {
-            return Err(fault);
-        }
+        add_access(&mut blocks, plan, access)?;
     }
     Ok(blocks)
 }
@@ -93,9 +91,7 @@ fn add_touched(blocks: &mut Vec<u32>, array: &ArrayRow, view: &View) -> Result<(
             high: col.end,
         };
         let rows = kept_in(view.part, cols, view.rows.count);
-        if let Err(fault) = add_in_column(blocks, array, &view.rows, rows, col.piece) {
-            return Err(fault);
-        }
+        add_in_column(blocks, array, &view.rows, rows, col.strip)?;
         place = col.end;
     }
     Ok(())
@@ -120,7 +116,7 @@ fn add_in_column(
     let mut place = rows.low;
     while place < rows.high {
         let row = slice_from(span, array.grid.brows, place);
-        blocks.push(number_of_block(array, row.piece, col))?;
+        blocks.push(number_of_block(array, row.strip, col))?;
         place = row.end;
     }
     Ok(())

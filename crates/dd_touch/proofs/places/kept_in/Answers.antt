@@ -1,5 +1,5 @@
 use Rattle.std.proofs.Common.{sym, ◌∙◌}
-use Rattle.dd_touch.proofs.PieceLemmas.{kept_diag}
+use Rattle.dd_touch.proofs.StripLemmas.{kept_diag}
 use Rattle.dd_touch.proofs.places.kept_in.Goals as goal
 
 pub returns-in-Diag : goal.returns-in-Diag

@@ -6,8 +6,8 @@ pub loop-place-preserved : goal.loop-place-preserved
 loop-place-preserved c = record {
   low = omega (arith, c.loop-place.invariant.low, c.slice_from-col.ensures.some);
   high = c.slice_from-col.ensures.last;
-  added = adds_column c.args.array.now c.args.view.now c.loop-place.place c.slice_from-col.result.piece c.slice_from-col.result.end c.kept_in-rows.result.low c.kept_in-rows.result.high c.args.blocks.now.items c.loop-place.blocks.items c.add_in_column.new.blocks.items
-      c.loop-place.invariant.low c.slice_from-col.ensures c.kept_in-rows.ensures c.loop-place.invariant.added c.in_default.ensures;
+  added = adds_column c.args.array.now c.args.view.now c.loop-place.place c.slice_from-col.result.strip c.slice_from-col.result.end c.kept_in-rows.result.low c.kept_in-rows.result.high c.args.blocks.now.items c.loop-place.blocks.items c.add_in_column.new.blocks.items
+      c.loop-place.invariant.low c.slice_from-col.ensures c.kept_in-rows.ensures c.loop-place.invariant.added c.in_ok-add_in_column.ensures;
 }
 
 pub returns : goal.returns

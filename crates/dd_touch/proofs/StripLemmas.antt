@@ -1,4 +1,4 @@
--- The numbers of a span that lie in one piece of an edge, and the rows of a diagonal.
+-- The numbers of a span that lie in one strip of an edge, and the rows of a diagonal.
 use Rattle.std.proofs.Common.{◌≡◌, ◌≢◌, ℕ, ◌+◌, ◌*◌, ◌-◌, ◌/◌, ◌%◌, ◌<◌, ◌≤◌, min, pos, ◌<ℤ◌, ap, sym, ◌∙◌, ⊎_elim, arith, unsigned_abs}
 use Rattle.std.specs.Int.{div_ceil}
 use Rattle.std.proofs.Math.Nat.{div-mul-le_self}
@@ -12,9 +12,9 @@ use Rattle.dd_views.proofs.ElementsLemmas.{number_low}
 use Rattle.dd_views.proofs.SignedLemmas.{size_pos, step_cases}
 use Rattle.dd_views.proofs.NumberAtLemmas.{down_at, steps_sum, up_at}
 use Rattle.dd_blocks.proofs.PiecesLemmas.{piece_within}
-use Rattle.dd_touch.specs.Pieces.{AreKept, IsShortSpan, IsSlice}
+use Rattle.dd_touch.specs.Strips.{AreKept, IsShortSpan, IsSlice}
 
--- the piece of a number so far beyond another, where there is room for the way in the piece, and where there is not
+-- the strip of a number so far beyond another, where there is room for the way in the strip, and where there is not
 stays_up : (index way size : ℕ) → 1 ≤ size → way + index % size < size → (index + way) / size ≡ index / size
 stays_up index way size some fits =
     let is : index + way ≡ index / size * size + (index % size + way) = omega (arith, div-add-mod' index size) in

@@ -1,38 +1,38 @@
-//! The pieces that an edge of an array is cut into, and the numbers of a span that lie in them.
+//! The numbers of a span that lie in one strip of an edge: the rows of one row of blocks, or the columns of one column.
 ghost use Rattle.std.specs.Prelude.{◌≡◌, ℕ, ◌+◌, ◌<◌, ◌≤◌, pos, ◌<ℤ◌, unsigned_abs};
 ghost use Rattle.dd_views.specs.IndexList.{number_at_place};
 ghost use Rattle.dd_views.specs.Span.{IsSpanIn};
-ghost use Rattle.dd_touch.specs.Pieces.{IsShortSpan, IsSlice};
+ghost use Rattle.dd_touch.specs.Strips.{IsShortSpan, IsSlice};
 
 use dd_views::Span3;
 
-/// Numbers of a span one after the other that lie in one piece of an edge.
+/// Numbers of a span one after the other that lie in one strip of an edge.
 #[derive(Clone, Copy, Debug)]
 pub(crate) struct Slice {
-    /// The piece, from 0.
-    pub(crate) piece: u32,
+    /// The strip, from 0.
+    pub(crate) strip: u32,
     /// The place, from 1, behind that of the last number.
     pub(crate) end: u64,
 }
 
-/// The numbers of a span from the one at a place on, up to the last one in the piece in which this one lies.
+/// The numbers of a span from the one at a place on, up to the last one in the strip in which this one lies.
 pub(crate) fn slice_from(span: &Span3, size: u32, place: u64) -> Slice
     requires span { IsShortSpan span.now }
     requires some { 1 ≤ size }
     requires low { 1 ≤ place }
     requires high { place ≤ span.now.count }
-    ensures { IsSlice span.now size place result.piece result.end }
+    ensures { IsSlice span.now size place result.strip result.end }
 {
     let size = u64::from(size);
     let index = index_at(span, place);
     let more = room(span, index % size, size) / stride(span);
     Slice {
-        piece: (index / size) as u32,
+        strip: (index / size) as u32,
         end: (place + more).min(u64::from(span.count)) + 1,
     }
 }
 
-/// How far a span may go on from a number of a piece, in the direction of its step, without leaving the piece.
+/// How far a span may go on from a number of a strip, in the direction of its step, without leaving the strip.
 fn room(span: &Span3, before: u64, size: u64) -> u64
     requires { before < size }
     ensures up { pos 0 <ℤ span.now.step → result + before + 1 ≡ size }

@@ -1,5 +1,5 @@
-use Rattle.dd_touch.proofs.PieceLemmas.{StandsAt, slice_is}
-use Rattle.dd_touch.proofs.pieces.slice_from.Goals as goal
+use Rattle.dd_touch.proofs.StripLemmas.{StandsAt, slice_is}
+use Rattle.dd_touch.proofs.strips.slice_from.Goals as goal
 
 pub returns : goal.returns
 returns c =

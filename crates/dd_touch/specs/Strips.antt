@@ -1,4 +1,5 @@
--- The places of a span's numbers by the pieces that an edge is cut into, and the places that a part keeps.
+-- The places of a span's numbers by the strips of an edge, each the rows of one row of blocks or the columns of one column,
+-- and the places that a part keeps.
 use Rattle.std.specs.Prelude.{◌≡◌, ◌≢◌, ◌↔◌, ℕ, ◌+◌, ◌-◌, ◌/◌, ◌^◌, ◌<◌, ◌≤◌, true}
 use Rattle.std.specs.Int.{div_ceil}
 use Rattle.dd_views.specs.declared.part.Part.{Part}
@@ -10,17 +11,17 @@ use Rattle.dd_views.specs.Span.{IsSpanIn}
 abbrev pub IsShortSpan : Span3 → Type 0
 IsShortSpan s = (length : ℕ) × (length < 2 ^ 32) × IsSpanIn length s
 
--- the piece, from 0, in which the number at a place lies
-abbrev pub piece_at : Span3 → ℕ → ℕ → ℕ
-piece_at s size i = (number_at_place s i - 1) / size
+-- the strip, from 0, in which the number at a place lies
+abbrev pub strip_at : Span3 → ℕ → ℕ → ℕ
+strip_at s size i = (number_at_place s i - 1) / size
 
--- the numbers at the places from low on and below end lie in one piece, and the next one does not
-pub record IsSlice (s : Span3) (size low piece end : ℕ) : Type 0 where
+-- the numbers at the places from low on and below end lie in one strip, and the next one does not
+pub record IsSlice (s : Span3) (size low strip end : ℕ) : Type 0 where
   pub some : low < end
   pub last : end ≤ s.count + 1
-  pub each : (i : ℕ) → low ≤ i → i < end → piece_at s size i ≡ piece
-  pub next : end ≤ s.count → piece_at s size end ≢ piece
-  pub fits : (length : ℕ) → IsSpanIn length s → piece < div_ceil length size
+  pub each : (i : ℕ) → low ≤ i → i < end → strip_at s size i ≡ strip
+  pub next : end ≤ s.count → strip_at s size end ≢ strip
+  pub fits : (length : ℕ) → IsSpanIn length s → strip < div_ceil length size
 
 -- the part keeps the row at the place i in one of the columns at the places from first on and below last
 abbrev pub KeepsIn : Part → ℕ → ℕ → ℕ → Type 0
