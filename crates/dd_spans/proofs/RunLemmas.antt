@@ -82,14 +82,14 @@ next_run_of ns left from first count rises below is at run =
 
 -- ---- what is left
 
-contains_range : (a n m : ℕ) → Contains (range_with_len a n) m → (a ≤ m) × (m < a + n)
+pub contains_range : (a n m : ℕ) → Contains (range_with_len a n) m → (a ≤ m) × (m < a + n)
 contains_range a n m has =
     let place = place_of (range_with_len a n) m has in
     let lt : place.0 < n = omega (arith, place.1, length-range_with_len a n) in
     let is = get_or-range_with_len a n place.0 0 lt in
     (omega (arith, is, place.2), omega (arith, is, place.2, lt))
 
-range_contains : (a n m : ℕ) → a ≤ m → m < a + n → Contains (range_with_len a n) m
+pub range_contains : (a n m : ℕ) → a ≤ m → m < a + n → Contains (range_with_len a n) m
 range_contains a n m le lt =
     let within : m - a < length (range_with_len a n) = omega (arith, length-range_with_len a n) in
     let at : get_or (range_with_len a n) (m - a) m ≡ m = get_or-range_with_len a n (m - a) m (omega arith) ∙ omega arith in

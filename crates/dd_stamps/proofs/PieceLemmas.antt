@@ -1,5 +1,5 @@
 -- The elements of an array's column that stand in a block.
-use Rattle.std.proofs.Common.{◌≡◌, ◌≢◌, ℕ, ◌+◌, ◌-◌, ◌*◌, ◌/◌, ◌%◌, ◌<◌, ◌≤◌, ◌↔◌, refl, sym, ap, ◌∙◌, arith, ⊎_elim}
+use Rattle.std.proofs.Common.{◌≡◌, ◌≢◌, ℕ, ◌+◌, ◌-◌, ◌*◌, ◌/◌, ◌%◌, ◌<◌, ◌≤◌, ◌↔◌, ◌⊎◌, refl, sym, ap, ◌∙◌, arith, ⊎_elim}
 use Rattle.std.proofs.lemmas.Bool.{cases_lt}
 use Rattle.std.proofs.lemmas.Nat.{div-add-mod', div-mul-add, mod-mul-add, mod_below}
 use Rattle.dd_kernels.proofs.ListsLemmas.{ap2}
@@ -7,7 +7,7 @@ use Rattle.dd_views.specs.declared.column.Column.{Column}
 use Rattle.dd_views.specs.Positions.{position_in}
 use Rattle.dd_blocks.specs.declared.grid.Grid.{Grid}
 use Rattle.dd_blocks.specs.Grids.{IsGrid, block_count, block_height, block_of, block_rows, block_size, col_of, col_of_block, element_count, place_in_block, pos_of, row_of, row_of_block}
-use Rattle.dd_blocks.proofs.GridLemmas.{begins_row, in_block, position_back}
+use Rattle.dd_blocks.proofs.GridLemmas.{begins_col, begins_row, in_block, position_back}
 use Rattle.dd_blocks.proofs.PiecesLemmas.{number_piece, number_place, piece_within}
 use Rattle.dd_stamps.specs.declared.piece.Piece.{Piece}
 use Rattle.dd_stamps.specs.Columns.{HasPlaces, IsColumnIn, IsPieceOf, place_in}
@@ -114,6 +114,32 @@ piece_beside g block col c p grid column first other from end = record {
   others = λ i lt there.
       absurd (other (block_within_column g block col _ _ (position_in c i) grid (column.inside i lt) (column.beside i lt ∙ first) there refl refl).block_col);
 }
+
+-- a column between where the block's begin and end is one of them
+pub col_here : (g : Grid) (block col : ℕ) → col_of_block g block * g.bcols ≤ col → col < col_of_block g block * g.bcols + g.bcols
+    → (col / g.bcols ≡ col_of_block g block) × (col % g.bcols ≡ col - col_of_block g block * g.bcols)
+col_here g block col low high =
+    let r : ℕ = col - col_of_block g block * g.bcols in
+    let is : col ≡ col_of_block g block * g.bcols + r = omega arith in
+    let less : r < g.bcols = omega arith in (
+      ap (λ (n : ℕ). n / g.bcols) is ∙ div-mul-add (col_of_block g block) g.bcols r less,
+      ap (λ (n : ℕ). n % g.bcols) is ∙ mod-mul-add (col_of_block g block) g.bcols r less,
+    )
+
+-- and one before them or behind them isn't
+pub col_elsewhere : (g : Grid) (block col : ℕ) → IsGrid g → (col < col_of_block g block * g.bcols) ⊎ (col_of_block g block * g.bcols + g.bcols ≤ col) → col / g.bcols ≢ col_of_block g block
+col_elsewhere g block col grid apart same =
+    let parts : col / g.bcols * g.bcols + col % g.bcols ≡ col = div-add-mod' col g.bcols in
+    let here : col / g.bcols * g.bcols ≡ col_of_block g block * g.bcols = ap (λ (n : ℕ). n * g.bcols) same in
+    let rest : col % g.bcols < g.bcols = mod_below col g.bcols grid.bcols in
+    ⊎_elim
+    (λ (low : col < col_of_block g block * g.bcols). absurd (omega (arith, parts, here, low)))
+    (λ (high : col_of_block g block * g.bcols + g.bcols ≤ col). absurd (omega (arith, parts, here, rest, high)))
+    apart
+
+-- the columns of a block begin before the array's last
+pub block_left : (g : Grid) (block : ℕ) → IsGrid g → block < block_count g → col_of_block g block * g.bcols < g.cols
+block_left g block grid few = begins_col g block grid few
 
 -- what the code that walks a piece has to know of it
 pub has_places : (g : Grid) (block : ℕ) (c : Column) (p : Piece) (size : ℕ) → IsGrid g → IsColumnIn g c → IsPieceOf g block c p → size ≡ block_size g block

@@ -1,10 +1,11 @@
 -- The elements of a column of a view that stand in a block.
-use Rattle.std.specs.Prelude.{◌≡◌, ◌≢◌, ℕ, ◌+◌, ◌-◌, ◌^◌, ◌<◌, ◌≤◌, pos, ◌≤ℤ◌}
+use Rattle.std.specs.Prelude.{◌≡◌, ◌≢◌, ℕ, ◌+◌, ◌*◌, ◌-◌, ◌^◌, ◌<◌, ◌≤◌, pos, ◌≤ℤ◌}
 use Rattle.dd_views.specs.declared.column.Column.{Column}
 use Rattle.dd_views.specs.Positions.{position_in, stepped}
 use Rattle.dd_blocks.specs.declared.grid.Grid.{Grid}
-use Rattle.dd_blocks.specs.Grids.{block_of, col_of, element_count, place_in_block}
+use Rattle.dd_blocks.specs.Grids.{block_height, block_of, col_of, col_of_block, element_count, place_in_block, row_of_block}
 use Rattle.dd_stamps.specs.declared.piece.Piece.{Piece}
+use Rattle.dd_stamps.specs.declared.piece.Window.{Window}
 
 -- a column of a view of an array with this grid: its positions stand in one column of the array
 pub record IsColumnIn (g : Grid) (c : Column) : Type 0 where
@@ -13,6 +14,13 @@ pub record IsColumnIn (g : Grid) (c : Column) : Type 0 where
   pub whole : (i : ℕ) → i < c.count → pos 0 ≤ℤ stepped c i
   pub inside : (i : ℕ) → i < c.count → position_in c i < element_count g
   pub beside : (i : ℕ) → i < c.count → col_of g (position_in c i) ≡ col_of g c.first
+
+-- where a block stands in its array
+pub record IsWindowOf (g : Grid) (block : ℕ) (w : Window) : Type 0 where
+  pub left : w.left ≡ col_of_block g block * g.bcols
+  pub right : w.right ≡ col_of_block g block * g.bcols + g.bcols
+  pub top : w.top ≡ row_of_block g block * g.brows
+  pub height : w.height ≡ block_height g block
 
 -- the place in its block of an element of the column, by its number in the column, from 0
 abbrev pub place_in : Grid → Column → ℕ → ℕ

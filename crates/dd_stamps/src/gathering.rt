@@ -9,7 +9,7 @@ ghost use Rattle.dd_stamps.specs.Columns.{HasPlaces, place_at};
 ghost use Rattle.dd_stamps.specs.Gathered.{HasGathered};
 ghost use Rattle.dd_stamps.specs.Placed.{HasCopied, HasPlaced};
 
-use crate::piece::{Piece, piece_of, place_of};
+use crate::piece::{Piece, piece_of, place_of, window_of};
 use dd_blocks::Grid;
 use dd_views::{Column, View};
 
@@ -22,10 +22,11 @@ pub(crate) fn gather(grid: &Grid, block: u64, values: &[i64], view: &View, into:
     requires long { length into.old ≡ length (index_list view.now) }
     ensures { HasGathered grid.now block values.now (index_list view.now) into.old into.new }
 {
+    let window = window_of(grid, block);
     let mut at = 0;
     for j in 0..view.cols.count {
         let column = view.column(j);
-        let piece = piece_of(grid, block, column);
+        let piece = piece_of(grid, block, window, column);
         gather_column(values, column, piece, into, at);
         at += column.count as usize;
     }

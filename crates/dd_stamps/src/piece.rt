@@ -2,7 +2,7 @@
 ghost use Rattle.std.specs.Prelude.{◌≡◌, ◌≢◌, ◌↔◌, ℕ, ◌+◌, ◌*◌, ◌-◌, ◌^◌, ◌<◌, ◌≤◌, pos, ◌≤ℤ◌};
 ghost use Rattle.dd_views.specs.Positions.{position_in, stepped};
 ghost use Rattle.dd_blocks.specs.Grids.{IsGrid, block_count};
-ghost use Rattle.dd_stamps.specs.Columns.{IsColumnIn, IsPieceOf, place_at};
+ghost use Rattle.dd_stamps.specs.Columns.{IsColumnIn, IsPieceOf, IsWindowOf, place_at};
 
 use dd_blocks::Grid;
 use dd_views::Column;
@@ -17,18 +17,46 @@ pub(crate) struct Piece {
     pub place: usize,
 }
 
-/// The piece of a column in a block, whose number in the grid is from 0. It costs a few divisions.
-pub(crate) fn piece_of(grid: &Grid, block: u64, column: Column) -> Piece
+/// Where a block stands in its array: it has the columns from `left` on and below `right`, and `height` rows from `top` on.
+#[derive(Clone, Copy)]
+pub(crate) struct Window {
+    pub left: u64,
+    pub right: u64,
+    pub top: u64,
+    pub height: u64,
+}
+
+/// The window of a block, whose number in the grid is from 0. Its divisions are made once for all columns of a view.
+pub(crate) fn window_of(grid: &Grid, block: u64) -> Window
     requires grid { IsGrid grid.now }
     requires block { block < block_count grid.now }
-    requires column { IsColumnIn grid.now column }
-    ensures { IsPieceOf grid.now block column result }
+    ensures { IsWindowOf grid.now block result }
 {
     let rows = u64::from(grid.rows);
     let bcols = u64::from(grid.bcols);
     let block_rows = u64::from(grid.rows.div_ceil(grid.brows));
+    let left = block / block_rows * bcols;
+    let top = block % block_rows * u64::from(grid.brows);
+    Window {
+        left,
+        right: left + bcols,
+        top,
+        height: u64::from(grid.brows).min(rows - top),
+    }
+}
+
+/// The piece of a column in the block that has the window. It costs one division, and two more where the step isn't 1. Clauses
+/// alone read the block.
+pub(crate) fn piece_of(grid: &Grid, _block: u64, window: Window, column: Column) -> Piece
+    requires grid { IsGrid grid.now }
+    requires block { _block < block_count grid.now }
+    requires window { IsWindowOf grid.now _block window }
+    requires column { IsColumnIn grid.now column }
+    ensures { IsPieceOf grid.now _block column result }
+{
+    let rows = u64::from(grid.rows);
     let col = column.first / rows;
-    if col / bcols != block / block_rows {
+    if col < window.left || window.right <= col {
         return Piece {
             from: 0,
             end: 0,
@@ -36,15 +64,13 @@ pub(crate) fn piece_of(grid: &Grid, block: u64, column: Column) -> Piece
             place: 0,
         };
     }
-    let top = block % block_rows * u64::from(grid.brows);
-    let height = u64::from(grid.brows).min(rows - top);
-    let low = col * rows + top;
-    let (from, end) = between(column, low, low + height);
+    let low = col * rows + window.top;
+    let (from, end) = between(column, low, low + window.height);
     Piece {
         from,
         end,
         low,
-        place: (col % bcols * height) as usize,
+        place: ((col - window.left) * window.height) as usize,
     }
 }
 
@@ -84,7 +110,9 @@ fn steps_within(way: u64, step: u64) -> usize
     requires { 0 < step }
     ensures { (i : ℕ) → (i < result) ↔ (i * step < way) }
 {
-    if way == 0 {
+    if step == 1 {
+        way as usize
+    } else if way == 0 {
         0
     } else {
         ((way - 1) / step + 1) as usize

@@ -5,53 +5,48 @@ ghost use Rattle.dd_stamps.specs.Taken.{HasRun, HasTaken};
 
 use dd_spans::{RunMap, Runs};
 
-/// The versions of some places become those of the other map.
-pub(crate) fn take_versions(ours: &mut RunMap, theirs: &RunMap, places: &Runs)
-    requires count { length theirs.now.list ≡ length ours.old.list }
-    requires places { All (λ p. p < length ours.old.list) places.now.list }
-    requires spare { 2 * length places.now.list ≤ ours.old.spare }
-    ensures taken { HasTaken 0 places.now.list ours.old.list theirs.now.list ours.new.list }
-    ensures spare { ours.old.spare ≤ ours.new.spare + 2 * length places.now.list }
+/// The versions and the values of some places become those of another copy, one run of places after the other.
+pub(crate) fn take_places(
+    versions: &mut RunMap,
+    values: &mut [i64],
+    other_versions: &RunMap,
+    other_values: &[i64],
+    places: &Runs,
+)
+    requires versions { length other_versions.now.list ≡ length versions.old.list }
+    requires values { length other_values.now ≡ length values.old }
+    requires same { length values.old ≡ length versions.old.list }
+    requires places { All (λ p. p < length versions.old.list) places.now.list }
+    requires spare { 2 * length places.now.list ≤ versions.old.spare }
+    ensures versions { HasTaken 0 places.now.list versions.old.list other_versions.now.list versions.new.list }
+    ensures values { HasTaken (pos 0) places.now.list values.old other_values.now values.new }
+    ensures spare { versions.old.spare ≤ versions.new.spare + 2 * length places.now.list }
 {
-    let mut from = 0;
-    while let Some((first, count)) = places.next_run(from) {
-        take_run(ours, theirs, first, first + count);
-        from = first + count;
+    let mut left = places.cursor();
+    while let Some((first, count)) = left.next_run() {
+        take_versions(versions, other_versions, first, count);
+        take_values(
+            values,
+            other_values,
+            first as usize,
+            (first + count) as usize,
+        );
     }
 }
 
-/// The versions of a run of places, from `first` on up to `end`, become those of the other map.
-fn take_run(ours: &mut RunMap, theirs: &RunMap, first: u64, end: u64)
-    requires order { first ≤ end }
+/// The versions of `count` places from `first` on become those of the other map.
+fn take_versions(ours: &mut RunMap, theirs: &RunMap, first: u64, count: u64)
     requires count { length theirs.now.list ≡ length ours.old.list }
-    requires within { end ≤ length ours.old.list }
-    requires spare { 2 * end ≤ ours.old.spare + 2 * first }
-    ensures taken { HasRun 0 first end ours.old.list theirs.now.list ours.new.list }
-    ensures spare { ours.old.spare + 2 * first ≤ ours.new.spare + 2 * end }
+    requires within { first + count ≤ length ours.old.list }
+    requires spare { 2 * count ≤ ours.old.spare }
+    ensures taken { HasRun 0 first (first + count) ours.old.list theirs.now.list ours.new.list }
+    ensures spare { ours.old.spare ≤ ours.new.spare + 2 * count }
 {
-    let mut at = first;
-    while at < end {
-        let next = theirs.same_until(at).min(end);
-        ours.set_run(at, next - at, theirs.get(at));
-        at = next;
-    }
-}
-
-/// The values of some places become those of the other list.
-pub(crate) fn take_values(ours: &mut [i64], theirs: &[i64], places: &Runs)
-    requires count { length theirs.now ≡ length ours.old }
-    requires places { All (λ p. p < length ours.old) places.now.list }
-    ensures taken { HasTaken (pos 0) places.now.list ours.old theirs.now ours.new }
-{
-    let mut from = 0;
-    while let Some((first, count)) = places.next_run(from) {
-        take_slice(ours, theirs, first as usize, (first + count) as usize);
-        from = first + count;
-    }
+    ours.copy_run(theirs, first, count);
 }
 
 /// The values from `first` on up to `end` become those of the other list.
-fn take_slice(ours: &mut [i64], theirs: &[i64], first: usize, end: usize)
+fn take_values(ours: &mut [i64], theirs: &[i64], first: usize, end: usize)
     requires order { first ≤ end }
     requires count { length theirs.now ≡ length ours.old }
     requires within { end ≤ length ours.old }

@@ -17,7 +17,7 @@ ghost use Rattle.dd_stamps.specs.Cells.{size_of};
 
 use crate::fill::filled_block;
 use crate::gathering::gather;
-use crate::places::{take_values, take_versions};
+use crate::places::take_places;
 use crate::rows::{array_with, block_row, task_row};
 use crate::storing::store_all;
 use crate::work::{Stage, Work};
@@ -79,8 +79,13 @@ impl<'p> Stamped<'p> {
         ensures values { HasTaken (pos 0) places.now.list self.old.values.items other.now.values.items self.new.values.items }
         ensures spare { self.old.versions.spare ≤ self.new.versions.spare + 2 * length places.now.list }
     {
-        take_versions(&mut self.versions, &other.versions, places);
-        take_values(&mut self.values, &other.values, places);
+        take_places(
+            &mut self.versions,
+            &mut self.values,
+            &other.versions,
+            &other.values,
+            places,
+        );
         self.told = Told::both(&self.told, &other.told);
     }
 

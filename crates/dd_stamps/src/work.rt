@@ -130,6 +130,13 @@ impl<'p> Work<'p> {
         self.told = Told::both(&self.told, &copy.told);
     }
 
+    /// The blocks that are to be collected.
+    pub fn left(&self) -> &[u32]
+        ensures { result.now ≡ self.now.left.items }
+    {
+        &self.left
+    }
+
     /// Hands out the buffers to the kernel, once all blocks were collected. It takes no memory.
     pub fn begin(&mut self) -> Args
         requires well { IsWellFormed self.old.plan.now }
