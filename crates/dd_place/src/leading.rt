@@ -1,7 +1,6 @@
 //! The block by which a task finds its space.
 ghost use Rattle.std.specs.Prelude.{◌≡◌, ◌<◌, All, IfSome};
 ghost use Rattle.std.specs.Option.{option_or};
-ghost use Rattle.dd_blocks.specs.Elements.{writes};
 ghost use Rattle.dd_blocks.specs.Charges.{block_with};
 ghost use Rattle.dd_blocks.specs.Grids.{element_count};
 ghost use Rattle.dd_blocks.specs.Numbered.{IsNumberIn, array_row};
@@ -10,7 +9,6 @@ ghost use Rattle.dd_blocks.specs.OfPlan.{IsOfPlan};
 ghost use Rattle.dd_place.specs.Premises.{CanPlace};
 
 use dd_blocks::{AccessRow, Plan};
-use dd_kernels::Mode;
 
 /// The block of the first element of the first written access that isn't empty, or else of the first access that
 /// isn't.
@@ -20,9 +18,8 @@ pub fn leading_block(plan: &Plan, accesses: &[AccessRow]) -> Option<u32>
     ensures value { result ≡ option_or (first_block_of plan.now (written accesses.now)) (first_block_of plan.now accesses.now) }
     ensures within { IfSome result (IsNumberIn plan.now.blocks) }
 {
-    let found = first_written_block(plan, accesses);
-    if found.is_some() {
-        return found;
+    if let Some(block) = first_written_block(plan, accesses) {
+        return Some(block);
     }
     first_block_of(plan, accesses)
 }
@@ -35,12 +32,10 @@ fn first_written_block(plan: &Plan, accesses: &[AccessRow]) -> Option<u32>
     ensures within { IfSome result (IsNumberIn plan.now.blocks) }
 {
     for access in accesses {
-        if !writes(access.mode) {
-            continue;
-        }
-        let found = first_block(plan, access);
-        if found.is_some() {
-            return found;
+        if access.writes()
+            && let Some(block) = first_block(plan, access)
+        {
+            return Some(block);
         }
     }
     None
@@ -54,21 +49,11 @@ fn first_block_of(plan: &Plan, accesses: &[AccessRow]) -> Option<u32>
     ensures within { IfSome result (IsNumberIn plan.now.blocks) }
 {
     for access in accesses {
-        let found = first_block(plan, access);
-        if found.is_some() {
-            return found;
+        if let Some(block) = first_block(plan, access) {
+            return Some(block);
         }
     }
     None
-}
-
-fn writes(mode: Mode) -> bool
-    ensures { result ≡ writes mode }
-{
-    match mode {
-        Mode::Read => false,
-        Mode::Write | Mode::Both => true,
-    }
 }
 
 /// The block of an access's first element.
@@ -86,7 +71,6 @@ fn first_block(plan: &Plan, access: &AccessRow) -> Option<u32>
 }
 
 /// The block that has a position of an array.
-#[tactic(auto, using(crate::proofs::NumberedLemmas::numbered_at))]
 fn block_with(plan: &Plan, array: u32, pos: u64) -> u32
     requires plan { CanPlace plan.now }
     requires array { IsNumberIn plan.now.arrays array }
@@ -94,6 +78,6 @@ fn block_with(plan: &Plan, array: u32, pos: u64) -> u32
     ensures value { result ≡ block_with plan.now array pos }
     ensures within { IsNumberIn plan.now.blocks result }
 {
-    let found = plan.arrays.as_slice()[array as usize - 1];
+    let found = plan.array(array);
     found.first_block + found.grid.block_of(pos) as u32
 }
