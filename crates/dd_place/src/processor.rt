@@ -86,13 +86,14 @@ fn space_by(plan: &Plan, homes: &[u32], task: &TaskRow) -> u32
 }
 
 /// The home of a block where those of the arrays are known.
+#[tactic(auto, using(crate::proofs::HomesLemmas::block_names))]
 fn home_by(plan: &Plan, homes: &[u32], block: u32) -> u32
     requires names { NamesRows plan.now }
     requires homes { length homes.now ≡ length plan.now.arrays }
     requires block { IsNumberIn plan.now.blocks block }
     ensures { (region : ℕ) → AreMovedTo (length plan.now.arrays) (rows_above plan.now region) homes.now → result ≡ home_in_region plan.now region block }
 {
-    let found = plan.blocks.as_slice()[block as usize - 1];
+    let found = plan.block(block);
     let moved_to = homes[found.array as usize - 1];
     if moved_to == 0 { found.home } else { moved_to }
 }

@@ -1,8 +1,9 @@
 -- What items give one after another.
-use Rattle.std.proofs.Common.{◌≡◌, ℕ, zero, suc, ◌+◌, ◌<◌, List, [], ◌∷◌, ◌++◌, length, take, get_or, take-suc, Option, Some, None, refl, sym, ap, ◌∙◌, arith, add-one, Bool, true, false, ◌&&◌}
+use Rattle.std.proofs.Common.{◌≡◌, ℕ, zero, suc, ◌+◌, ◌<◌, List, [], ◌∷◌, ◌++◌, length, take, get_or, take-suc, Option, Some, None, Result, IfErr, refl, sym, ap, ◌∙◌, arith, add-one, Bool, true, false, ◌&&◌}
 use Rattle.std.specs.List.{list_all}
 use Rattle.std.proofs.lemmas.List.{append_assoc, append-nil}
 use Rattle.std.proofs.lemmas.Option.{same_Some}
+use Rattle.std.proofs.lemmas.Result.{IfErr-weaker}
 use Rattle.dd_causes.proofs.StepsLemmas.{bind_some}
 use Rattle.dd_causes.specs.Steps.{◌>>=◌}
 use Rattle.dd_script.specs.Pieces.{gathered}
@@ -55,6 +56,10 @@ item_fault f xs i x UnknownStatement l at h = h
 item_fault f xs i x BadNumber l at h = h
 item_fault f xs i x UnknownPart l at h = gathered_none f xs i x l at h
 item_fault f xs i x Memory l at h = h
+
+-- the same of an answer
+pub item_faults : {T A B : Type 0} (r : Result T LineFault) (f : A → Option (List B)) (xs : List A) (i : ℕ) (x : A) → i < length xs → x ≡ get_or xs i x → IfErr r (λ e. IsPartFault e (f x)) → IfErr r (λ e. IsPartFault e (gathered f xs))
+item_faults r f xs i x l at h = IfErr-weaker r (λ e. IsPartFault e (f x)) (λ e. IsPartFault e (gathered f xs)) (λ e fault. item_fault f xs i x e l at fault) h
 
 and_true : (a b : Bool) → (a && b) ≡ true → (a ≡ true) × (b ≡ true)
 and_true true b e = (refl, e)

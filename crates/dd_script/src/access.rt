@@ -5,10 +5,9 @@ ghost use Rattle.dd_script.specs.Numbers.{view_fits};
 ghost use Rattle.dd_script.specs.Pieces.{mode_named, part_named, pair_piece, word_piece};
 ghost use Rattle.dd_script.specs.PieceFaults.{IsPartFault};
 
-use crate::cursor::is_word;
 use crate::piece::Piece;
 use crate::viewed::Viewed;
-use crate::word::Word;
+use crate::word::{Word, is_word};
 use dd_kernels::Mode;
 use dd_tokens::LineFault;
 use dd_views::Part;

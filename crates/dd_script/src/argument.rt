@@ -6,7 +6,7 @@ ghost use Rattle.dd_tokens.specs.Lexeme.{lexemes_of};
 ghost use Rattle.dd_script.specs.Numbers.{argument_fits};
 ghost use Rattle.dd_script.specs.ArgumentSteps.{no_token, with_pairs_at, two_words_at, one_word_at, called_at, bare_at, argument_at, arguments_at};
 
-use crate::cursor::mark;
+use crate::mark::mark;
 use crate::pair::{Pair, pair_at, pairs_at};
 use crate::viewed::{Viewed, view_at, viewed_at};
 use crate::word::{Word, word_at};

@@ -7,9 +7,8 @@ ghost use Rattle.dd_script.specs.Numbers.{filling_fits};
 ghost use Rattle.dd_script.specs.Reads.{fill_of};
 ghost use Rattle.dd_script.specs.FormSteps.{filling_by, filling_at};
 
-use crate::cursor::is_word;
 use crate::numeral::{Numeral, numeral_at};
-use crate::word::word_at;
+use crate::word::{is_word, word_at};
 use dd_blocks::Fill;
 use dd_tokens::Token;
 

@@ -6,11 +6,10 @@ ghost use Rattle.dd_tokens.specs.Lexeme.{lexemes_of};
 ghost use Rattle.dd_script.specs.FormSteps.{alone, name_at, two_names_at, space_at, proc_at, same_at, move_at, policy_named, policy_at, rule_named, place_at, array_at, scalar_at, task_at, form_by};
 
 use crate::argument::arguments_at;
-use crate::cursor::is_word;
 use crate::filling::filling_at;
 use crate::keyword::Keyword;
 use crate::numeral::{Numeral, numeral_at};
-use crate::word::{Word, word_at};
+use crate::word::{Word, is_word, word_at};
 use crate::written::Written;
 use dd_blocks::{Policy, Rule};
 use dd_tokens::Token;

@@ -7,7 +7,7 @@ ghost use Rattle.dd_script.specs.Numbers.{index_fits};
 ghost use Rattle.dd_script.specs.Pieces.{range_of};
 ghost use Rattle.dd_script.specs.ViewSteps.{run_at, numbers_at, index_at};
 
-use crate::cursor::mark;
+use crate::mark::mark;
 use crate::numeral::{Numeral, numeral_at};
 use dd_tokens::Token;
 use dd_views::Range;

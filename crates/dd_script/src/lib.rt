@@ -22,12 +22,12 @@
 
 mod access;
 mod argument;
-mod cursor;
 mod filling;
 mod form;
 mod index;
 mod keyword;
 pub mod laws;
+mod mark;
 mod meaning;
 mod numbers;
 mod numeral;

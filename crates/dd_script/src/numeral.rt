@@ -52,7 +52,10 @@ impl Numeral<'_> {
         requires { fits_int64 self.now ≡ true }
         ensures { result ≡ self.now }
     {
-        self.checked().unwrap_or(0)
+        match self.checked() {
+            Some(value) => value,
+            None => unreachable!(),
+        }
     }
 
     /// Its value, as the bytes that a space may have.
@@ -62,7 +65,7 @@ impl Numeral<'_> {
     {
         match self.checked() {
             Some(bytes) => bytes.unsigned_abs(),
-            None => 0,
+            None => unreachable!(),
         }
     }
 

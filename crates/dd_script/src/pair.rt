@@ -5,7 +5,7 @@ ghost use Rattle.dd_tokens.specs.TokenIn.{IsTokenIn};
 ghost use Rattle.dd_tokens.specs.Lexeme.{lexemes_of};
 ghost use Rattle.dd_script.specs.ArgumentSteps.{no_pair, pair_at, pairs_at};
 
-use crate::cursor::mark;
+use crate::mark::mark;
 use crate::word::{Word, word_at};
 use dd_tokens::Token;
 use dd_views::Items;

@@ -10,10 +10,10 @@ ghost use Rattle.dd_script.specs.PieceFaults.{IsPartFault, Adds};
 
 use crate::access::{pair_piece, word_piece};
 use crate::argument::Argument;
-use crate::cursor::is_word;
 use crate::pair::Pair;
 use crate::piece::Piece;
 use crate::viewed::Viewed;
+use crate::word::is_word;
 use dd_kernels::Mode;
 use dd_tokens::LineFault;
 use dd_views::{Items, Part};
@@ -47,9 +47,7 @@ fn add_pairs(
     ensures err { IfErr result (λ e. IsPartFault e (gathered (λ (q : Pair). only (pair_piece view.now q.access q.part)) pairs.now)) }
 {
     for pair in pairs {
-        if let Err(fault) = add_pair(alloc, pieces, view, pair) {
-            return Err(fault);
-        }
+        add_pair(alloc, pieces, view, pair)?;
     }
     Ok(())
 }
@@ -146,9 +144,7 @@ pub(crate) fn add_arguments(
     ensures err { IfErr result (λ e. IsPartFault e (gathered pieces_of arguments.now)) }
 {
     for argument in arguments {
-        if let Err(fault) = add_argument(alloc, pieces, argument) {
-            return Err(fault);
-        }
+        add_argument(alloc, pieces, argument)?;
     }
     Ok(())
 }

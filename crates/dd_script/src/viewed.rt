@@ -7,8 +7,8 @@ ghost use Rattle.dd_script.specs.Numbers.{view_fits};
 ghost use Rattle.dd_script.specs.Pieces.{piece};
 ghost use Rattle.dd_script.specs.ViewSteps.{indexed_at, viewed_at, view_at};
 
-use crate::cursor::mark;
 use crate::index::{Index, index_at};
+use crate::mark::mark;
 use crate::piece::Piece;
 use crate::word::{Word, word_at};
 use dd_blocks::Name;

@@ -54,3 +54,10 @@ pub(crate) fn word_at<'a, 't>(
         _ => None,
     }
 }
+
+/// Whether two words are one.
+pub(crate) fn is_word(found: &[u8], wanted: &[u8]) -> bool
+    ensures { result ≡ bytes_eq found.now wanted.now }
+{
+    found == wanted
+}
