@@ -13,7 +13,7 @@ use Rattle.dd_blocks.specs.declared.plan.Plan.{Plan}
 use Rattle.dd_blocks.specs.Charges.{block_with}
 use Rattle.dd_blocks.specs.Grids.{block_of, block_rows, row_of}
 use Rattle.dd_blocks.specs.Numbered.{array_row, block_row}
-use Rattle.dd_transfers.specs.declared.homes.Run.{Run}
+use Rattle.dd_transfers.specs.declared.homes.Stretch.{Stretch}
 use Rattle.dd_transfers.specs.declared.mark.Visit.{Visit}
 use Rattle.dd_transfers.specs.declared.mark.Visit.TheVariants.{Write}
 use Rattle.dd_transfers.specs.Homes.{home_by}
@@ -174,7 +174,7 @@ visited_run f first done len old mid new moved more before here =
     ap (map f) (range-add first done len) ∙ map-append f (range_with_len first done) (range_with_len (first + done) len) in
     subst (λ (vs : List ElementVisit). Visited vs old new (moved + more)) (sym e) (visited_append (map f (range_with_len first done)) (map f (range_with_len (first + done) len)) old mid new moved more before here)
 
-pub visited_next : (plan : Plan) (homes : List ℕ) (visit : Visit) (array first done from : ℕ) (found run : Run) (old mid new : List ℕ) (moved more : ℕ)
+pub visited_next : (plan : Plan) (homes : List ℕ) (visit : Visit) (array first done from : ℕ) (found run : Stretch) (old mid new : List ℕ) (moved more : ℕ)
     → from ≡ done → run.home ≡ found.home → run.len ≤ found.len → ((len : ℕ) → len ≤ found.len → HaveHome plan homes visit array (first + from) len found.home)
     → Visited (map (visit_at plan homes visit array) (range_with_len first done)) old mid moved
     → ((all : List ℕ) → HaveHome plan all visit array (first + from) run.len run.home → Visited (map (visit_at plan all visit array) (range_with_len (first + from) run.len)) mid new more)

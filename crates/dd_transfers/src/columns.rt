@@ -10,7 +10,7 @@ ghost use Rattle.dd_transfers.specs.Homes.{AreHomes, HasPositions};
 ghost use Rattle.dd_transfers.specs.Marks.{IsMarked, IsMarkedVisit};
 ghost use Rattle.dd_transfers.specs.Visits.{HaveHome, Visited, visit_at};
 
-use crate::homes::{Run, array_of, home_for, run_at};
+use crate::homes::{Stretch, home_for, run_at};
 use crate::mark::{Visit, after_visit, visit_marks};
 use dd_blocks::Plan;
 use dd_views::Column;
@@ -51,7 +51,7 @@ fn has_long_runs(plan: &Plan, homes: &[u32], array: u32, count: u32) -> bool
     let longest = if homes[array as usize - 1] > 0 {
         count
     } else {
-        array_of(plan, array).grid.brows.min(count)
+        plan.array(array).grid.brows.min(count)
     };
     longest >= LONG
 }
@@ -86,7 +86,7 @@ fn visit_runs(
 }
 
 /// Elements that have one home are visited.
-fn visit_run(marks: &mut [u8], plan: &Plan, array: u32, pos: u64, run: Run, visit: Visit) -> u64
+fn visit_run(marks: &mut [u8], plan: &Plan, array: u32, pos: u64, run: Stretch, visit: Visit) -> u64
     requires well { IsWellFormed plan.now }
     requires marks { length marks.old ≡ elements_in plan.now.arrays }
     requires array { IsNumberIn plan.now.arrays array }
@@ -95,7 +95,7 @@ fn visit_run(marks: &mut [u8], plan: &Plan, array: u32, pos: u64, run: Run, visi
     requires visit { IsMarkedVisit visit }
     ensures { (homes : List ℕ) → HaveHome plan.now homes visit array pos run.len run.home → Visited (map (visit_at plan.now homes visit array) (range_with_len pos run.len)) marks.old marks.new result }
 {
-    let at = (array_of(plan, array).first_element + pos) as usize;
+    let at = (plan.array(array).first_element + pos) as usize;
     let moved = visit_marks(&mut marks[at..at + run.len as usize], run.home, visit);
     u64::from(moved)
 }
@@ -143,7 +143,7 @@ fn visit_element(
     requires visit { IsMarkedVisit visit }
     ensures { Visited (visit_at plan.now homes.now visit array pos ∷ []) marks.old marks.new result }
 {
-    let at = (array_of(plan, array).first_element + pos) as usize;
+    let at = (plan.array(array).first_element + pos) as usize;
     let mark = marks[at];
     let home = home_for(plan, homes, array, pos, visit, mark);
     let seen = after_visit(mark, home, visit);

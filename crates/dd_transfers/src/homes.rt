@@ -9,30 +9,22 @@ ghost use Rattle.dd_transfers.specs.Marks.{AreSameTo, IsMarked};
 ghost use Rattle.dd_transfers.specs.Visits.{HaveHome};
 
 use crate::mark::Visit;
-use dd_blocks::{ArrayRow, Grid, Plan};
-
-/// The row of an array.
-pub(crate) fn array_of(plan: &Plan, array: u32) -> ArrayRow
-    requires { IsNumberIn plan.now.arrays array }
-    ensures { result ≡ array_row plan.now array }
-{
-    plan.arrays.as_slice()[array as usize - 1]
-}
+use dd_blocks::{Grid, Plan};
 
 /// So many elements, one after the other, that have one home.
 #[derive(Clone, Copy)]
-pub(crate) struct Run {
+pub(crate) struct Stretch {
     pub home: u32,
     pub len: u32,
 }
 
-impl Run {
+impl Stretch {
     /// The first of these elements, at most so many.
-    pub(crate) fn at_most(self, len: u32) -> Run
+    pub(crate) fn at_most(self, len: u32) -> Stretch
         ensures home { result.home ≡ self.home }
         ensures len { result.len ≡ min self.len len }
     {
-        Run {
+        Stretch {
             home: self.home,
             len: self.len.min(len),
         }
@@ -41,7 +33,7 @@ impl Run {
 
 /// The elements from a position of an array on that have one home: to the edge of the block, or as many as there are
 /// where the array was moved, or where the visit does not ask for a home.
-pub(crate) fn run_at(plan: &Plan, homes: &[u32], array: u32, pos: u64, visit: Visit) -> Run
+pub(crate) fn run_at(plan: &Plan, homes: &[u32], array: u32, pos: u64, visit: Visit) -> Stretch
     requires well { IsWellFormed plan.now }
     requires homes { AreHomes plan.now homes.now }
     requires array { IsNumberIn plan.now.arrays array }
@@ -51,21 +43,21 @@ pub(crate) fn run_at(plan: &Plan, homes: &[u32], array: u32, pos: u64, visit: Vi
     ensures some { 1 ≤ result.len }
 {
     if let Visit::Write(_) = visit {
-        return Run {
+        return Stretch {
             home: 1,
             len: u32::MAX,
         };
     }
     let moved_to = homes[array as usize - 1];
     if moved_to > 0 {
-        return Run {
+        return Stretch {
             home: moved_to,
             len: u32::MAX,
         };
     }
-    Run {
+    Stretch {
         home: first_home(plan, array, pos),
-        len: rows_left(array_of(plan, array).grid, pos),
+        len: rows_left(plan.array(array).grid, pos),
     }
 }
 
@@ -128,7 +120,7 @@ fn first_home(plan: &Plan, array: u32, pos: u64) -> u32
     ensures value { result ≡ (block_row plan.now (block_with plan.now array pos)).home }
     ensures within { IsMarked result }
 {
-    let row = array_of(plan, array);
+    let row = plan.array(array);
     let block = u64::from(row.first_block) + row.grid.block_of(pos);
     plan.blocks.as_slice()[block as usize - 1].home
 }

@@ -2,7 +2,7 @@
 ghost use Rattle.std.specs.Prelude.{◌≡◌, ◌^◌, ◌<◌, cond, length, map, sum_by};
 ghost use Rattle.dd_transfers.specs.Marks.{IsMarked, IsMarkedVisit, has_space, mark_after, mark_of, moves_at, opened};
 
-use dd_kernels::Mode;
+use dd_blocks::AccessRow;
 
 /// Why a region comes to an element, with the number of a space, from 1.
 #[derive(Clone, Copy, Debug)]
@@ -19,18 +19,18 @@ impl Visit {
     ghost use Rattle.dd_transfers.specs.Marks.{asks_home};
     ghost use Rattle.dd_transfers.specs.Visits.{is_of};
 
-    /// Whether the visit is of accesses of the mode.
-    pub(crate) fn is_of(self, mode: Mode) -> bool
-        ensures { result ≡ is_of self mode }
+    /// Whether the visit comes to the elements of the access.
+    pub(crate) fn is_of(self, access: &AccessRow) -> bool
+        ensures { result ≡ is_of self access.now.mode }
     {
         match self {
-            Visit::Read(_) => mode != Mode::Write,
-            Visit::Write(_) => mode != Mode::Read,
+            Visit::Read(_) => access.reads(),
+            Visit::Write(_) => access.writes(),
             Visit::Leave => true,
         }
     }
 
-    /// Whether it depends on the home what the visit makes of the mark.
+    /// Whether the visit needs the element's home, to know what becomes of the mark.
     pub(crate) fn asks_home(self, mark: u8) -> bool
         ensures { result ≡ asks_home self mark }
     {

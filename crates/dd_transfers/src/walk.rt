@@ -79,7 +79,7 @@ fn space_of(plan: &Plan, task: &TaskRow) -> u32
     requires { IsNumberIn plan.now.procs task.now.proc }
     ensures { result ≡ space_of plan.now task.now }
 {
-    plan.procs.as_slice()[task.proc as usize - 1].space
+    plan.proc(task.proc).space
 }
 
 /// All accesses of a task that the visit is of.
@@ -114,7 +114,7 @@ fn visit_access(
     requires visit { IsMarkedVisit visit }
     ensures { Visited (access_visits plan.now homes.now visit access.now) marks.old marks.new result }
 {
-    if visit.is_of(access.mode) {
+    if visit.is_of(access) {
         visit_view(marks, plan, homes, &access.view, visit)
     } else {
         0
