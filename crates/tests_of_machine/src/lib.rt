@@ -1,9 +1,12 @@
-//! Tests of the crates that the event machine stands on, and of the machine: `dd_owed` and `dd_history`.
+//! Tests of the crates that the event machine stands on, and of the machine: `dd_owed`, `dd_history` and
+//! `dd_copies`.
 //!
 //! This crate has tests alone, and no other crate stands on it. Each module is one noun: a table of rows whose answers
 //! come from outside, and the helpers that ask for them. `plans` reads the scripts of several of them.
 #![tactic(auto)]
 
+#[cfg(test)]
+mod copies;
 #[cfg(test)]
 mod current;
 #[cfg(test)]
