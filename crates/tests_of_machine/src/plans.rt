@@ -23,17 +23,35 @@ moved
 print B
 ";
 
-/// An array of four blocks, whose homes are the two spaces in turn, moved to the second one.
-pub(crate) const FOUR_BLOCKS: &str = "space m 4096
+/// An array of three by two blocks, whose homes are the two spaces in turn, moved to the second one.
+pub(crate) const SIX_BLOCKS: &str = "space m 4096
 space n 4096
 proc p m
-array A 4 4 2 2 zeros
+array A 5 3 2 2 zeros
 move A n
 print A
 sum A
 same B A
 drop A
 drop B
+";
+
+/// An array of two blocks that is moved three times, the last time to where it is.
+pub(crate) const TWO_MOVES: &str = "space m 4096
+space n 4096
+proc p m
+array A 4 1 2 1 zeros
+moved
+move A n
+move A m
+move A m
+print A
+same B A
+drop A
+drop B
+array C 1 1 1 1 zeros
+drop C
+moved
 ";
 
 /// The Plan of a script that has no fault.
