@@ -43,6 +43,6 @@ lends plan task found = flat_map (lends_of plan task) found
 abbrev pub with_blocks : Plan → State → ℕ → List ℕ → List Event
 with_blocks plan st task found = makes task found ++ (calls (place plan task) found ++ (copies plan st task found ++ lends plan task found))
 
--- all of them: a block of the task's space is spilled, and what serves the blocks that it touches
+-- all of them: a block of the task's space is spilled, and what serves the blocks that it touches, which the Plan lists rising
 abbrev pub candidates : Plan → State → ℕ → List Event
 candidates plan st task = picks plan (place plan task) ++ with_blocks plan st task (task_row plan task).blocks
