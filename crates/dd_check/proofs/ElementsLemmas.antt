@@ -3,7 +3,7 @@ use Rattle.std.proofs.Common.{◌≡◌, ◌≢◌, ℕ, zero, suc, ◌+◌, ◌
 use Rattle.std.specs.List.{All, AllPairs, Contains, filter, find}
 use Rattle.std.proofs.lemmas.Bool.{cases_Bool, false≢true}
 use Rattle.std.proofs.lemmas.List.Elements.{All-cons, Contains-get_or}
-use Rattle.dd_check.proofs.RowsLemmas.{filter_all}
+use Rattle.dd_lists.proofs.ListsLemmas.{filter_all}
 
 pub contains_head : {X : Type 0} (x y : X) (xs : List X) → x ≡ y → Contains (x ∷ xs) y
 contains_head x y xs same = (0, omega arith, same)

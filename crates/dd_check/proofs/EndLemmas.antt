@@ -30,7 +30,8 @@ use Rattle.dd_check.proofs.JoinedLemmas.{all_joined, contains_shifted, joined_at
 use Rattle.dd_check.proofs.LivesLemmas.{fits_push, live_push, lives_push, puts_push}
 use Rattle.dd_check.proofs.NamesKeptLemmas.{names_same}
 use Rattle.dd_check.proofs.PushLemmas.{IsReady, line_push, more_regions, no_tasks_region, ready_machine, row_on, rows_named, touches_push}
-use Rattle.dd_check.proofs.RowsLemmas.{All_numbered, All_one, filter_all, filter_none, numbered_kept, numbered_more, rises_append}
+use Rattle.dd_check.proofs.RowsLemmas.{All_numbered, All_one, numbered_kept, numbered_more, rises_append}
+use Rattle.dd_lists.proofs.ListsLemmas.{filter_all, filter_none}
 use Rattle.dd_check.proofs.WithinLemmas.{touched_numbers}
 
 module _ (n : ℕ) (s : Above) (found : List (List ℕ)) (sound : IsSound n s) (ready : IsReady s) (places : All (HasBlocks s.plan) s.plan.arrays) (each : length found ≡ length (open_tasks s))

@@ -1,9 +1,8 @@
 -- No text has neither a Plan nor a fault. Nothing is said of how the one or the other is found.
-use Rattle.std.proofs.Common.{◌≡◌, ℕ, suc, ◌+◌, ◌<◌, ◌≤◌, ◌⊎◌, inl, inr, ⊎_elim, Bool, true, false, List, [], ◌∷◌, length, Option, None, Some, ℤ, refl, sym, subst, arith}
+use Rattle.std.proofs.Common.{◌≡◌, ℕ, suc, ◌+◌, ◌<◌, ◌≤◌, inl, inr, ⊎_elim, true, false, List, [], ◌∷◌, length, Option, None, Some, ℤ, refl, sym, subst, arith}
 use Rattle.std.proofs.lemmas.Bool.{cases_Bool, cases_lt}
 use Rattle.dd_tokens.specs.declared.token.Token.{Token}
 use Rattle.dd_tokens.specs.Bytes.{IsText}
-use Rattle.dd_tokens.specs.Lexeme.{lexemes_of}
 use Rattle.dd_tokens.specs.Tokens.{AreTokensOf}
 use Rattle.dd_blocks.specs.declared.plan.Plan.{Plan}
 use Rattle.dd_blocks.specs.Limits.{text_limit}
@@ -11,7 +10,7 @@ use Rattle.dd_script.specs.declared.statement.Statement.{Statement}
 use Rattle.dd_script.specs.declared.statement.Statement.TheVariants.{Space, Proc, PolicyIs, PlaceIs, Array, Same, Drop, MoveTo, Region, Task, End, Print, Sum, Moved}
 use Rattle.dd_script.specs.declared.piece.Piece.{Piece}
 use Rattle.dd_blocks.specs.declared.task_row.TaskRow.{TaskRow}
-use Rattle.dd_check.specs.Rows.{AreJoined, IsTask, with_found}
+use Rattle.dd_check.specs.Rows.{AreJoined, with_found}
 use Rattle.dd_check.specs.Above.{open_tasks}
 use Rattle.dd_script.specs.Numbers.{numbers_fit}
 use Rattle.dd_script.specs.Reads.{Reads, meaning}
@@ -24,7 +23,6 @@ use Rattle.dd_check.specs.Effects.{Enters, add_task}
 use Rattle.dd_check.specs.Faults.{AreClear, AreTaken, IsClear, IsFault, IsFirstOf, IsPlanOf, IsRefused, IsRefusedIn, IsTaken, IsUnread, kinds, too_long}
 use Rattle.dd_check.specs.Sound.{IsSound}
 use Rattle.std.proofs.Common.{zero, ◌++◌, add-one}
-use Rattle.dd_blocks.specs.Conflicts.{AreDependencies}
 use Rattle.dd_alias.specs.Dependencies.{AreDependenciesOfAll}
 use Rattle.dd_alias.proofs.DependenciesLemmas.{AreDependenciesSoFar, so_far_all, so_far_more, so_far_none}
 use Rattle.dd_alias.proofs.FoundLemmas.{AreFound, Conflicts, found_all, found_more, found_none, found_same}

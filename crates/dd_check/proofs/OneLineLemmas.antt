@@ -1,5 +1,5 @@
 -- A line is taken in one way, or refused for one fault.
-use Rattle.std.proofs.Common.{◌≡◌, ℕ, ◌⊎◌, inl, inr, ⊎_elim, List, Option, Some, None, refl, sym, ap, subst, ◌∙◌}
+use Rattle.std.proofs.Common.{◌≡◌, ℕ, ◌⊎◌, inl, inr, List, Option, Some, None, refl, sym, ap, subst, ◌∙◌}
 use Rattle.std.proofs.lemmas.Option.{none-some, same_Some}
 use Rattle.dd_tokens.specs.declared.fault.LineFault.{LineFault}
 use Rattle.dd_tokens.specs.declared.fault.LineFault.TheVariants as unread

@@ -16,7 +16,8 @@ use Rattle.dd_blocks.specs.Touches.{touches_in, touches_of}
 use Rattle.dd_blocks.specs.WellFormed.{StatementNamesRows}
 use Rattle.dd_check.specs.Above.{Above, open_tasks}
 use Rattle.dd_check.specs.Sound.{IsInLineTo, IsOpenTask, IsSoundMachine, IsSoundRegion}
-use Rattle.dd_check.proofs.RowsLemmas.{All_none, rises_append, rises_one, sum_agree}
+use Rattle.dd_check.proofs.RowsLemmas.{All_none, rises_append, rises_one}
+use Rattle.dd_lists.proofs.SumsLemmas.{sum_by_same}
 use Rattle.dd_check.proofs.ExtendsLemmas.{Extends, statement_names_kept, touches_kept}
 
 abbrev pub row_on : ℕ → What → StatementRow
@@ -76,7 +77,7 @@ line_kept n s after line is tasks = record {
 module _ (p q : Plan) (row : StatementRow) (e : Extends p q) (is : q.statements ≡ p.statements ++ row ∷ []) (names : All (λ (r : StatementRow). StatementNamesRows p r.what) p.statements) where
   pub touches_push : sum_by (λ (r : StatementRow). touches_of q r.what) q.statements ≡ sum_by (λ (r : StatementRow). touches_of p r.what) p.statements + touches_of q row.what
   touches_push =
-      let old : sum_by (λ (r : StatementRow). touches_of q r.what) p.statements ≡ sum_by (λ (r : StatementRow). touches_of p r.what) p.statements = sum_agree (λ (r : StatementRow). touches_of q r.what) (λ (r : StatementRow). touches_of p r.what) p.statements (λ k d lt. touches_kept p q e (get_or p.statements k d).what (names k d lt)) in
+      let old : sum_by (λ (r : StatementRow). touches_of q r.what) p.statements ≡ sum_by (λ (r : StatementRow). touches_of p r.what) p.statements = sum_by_same (λ (r : StatementRow). touches_of q r.what) (λ (r : StatementRow). touches_of p r.what) p.statements (λ k d lt. touches_kept p q e (get_or p.statements k d).what (names k d lt)) in
       ap (sum_by (λ (r : StatementRow). touches_of q r.what)) is ∙ sum_by_push (λ (r : StatementRow). touches_of q r.what) p.statements row ∙ ap (λ (n : ℕ). n + touches_of q row.what) old
 
   pub rows_named : StatementNamesRows q row.what → All (λ (r : StatementRow). StatementNamesRows q r.what) q.statements

@@ -1,11 +1,10 @@
 -- Rows by their numbers, and what holds of rows where some are appended.
-use Rattle.std.proofs.Common.{◌≡◌, ℕ, zero, suc, ◌-◌, ◌+◌, ◌<◌, ◌≤◌, Bool, true, false, List, [], ◌∷◌, ◌++◌, length, get_or, map, refl, ap, sym, subst, ◌∙◌, ◌⊎◌, inl, inr, ⊎_elim, arith}
-use Rattle.std.specs.List.{All, Any, filter, sum_by}
+use Rattle.std.proofs.Common.{◌≡◌, ℕ, zero, suc, ◌-◌, ◌+◌, ◌<◌, ◌≤◌, List, [], ◌∷◌, ◌++◌, length, get_or, map, refl, ap, sym, subst, ◌∙◌, ◌⊎◌, inl, inr, ⊎_elim, arith}
+use Rattle.std.specs.List.{All, Any}
 use Rattle.std.specs.List.Sorted.{IsNonDecreasingBy}
 use Rattle.std.proofs.lemmas.Bool.{cases_lt}
 use Rattle.std.proofs.lemmas.List.{get_or_append_left, get_or-append_right, get_or-append-add, get_or_push, length-append}
 use Rattle.std.proofs.lemmas.List.Elements.{All-cons, All-from_get_or, All-nil}
-use Rattle.std.proofs.lemmas.List.Sums.{sum_by-cons}
 use Rattle.dd_blocks.specs.Numbered.{IsNumberIn, numbered}
 
 -- a row that is there stays where rows are appended
@@ -80,23 +79,3 @@ map_agree f g (x ∷ xs) all =
     let first : f x ≡ g x = all 0 x (omega arith) in
     let rest : map f xs ≡ map g xs = map_agree f g xs (λ k d lt. all (suc k) d (omega arith)) in
     cc
-
-pub sum_agree : {X : Type 0} (f g : X → ℕ) (xs : List X) → All (λ x. f x ≡ g x) xs → sum_by f xs ≡ sum_by g xs
-sum_agree f g [] all = refl
-sum_agree f g (x ∷ xs) all =
-    let first : f x ≡ g x = all 0 x (omega arith) in
-    let rest : sum_by f xs ≡ sum_by g xs = sum_agree f g xs (λ k d lt. all (suc k) d (omega arith)) in
-    omega (arith, sum_by-cons f x xs, sum_by-cons g x xs)
-
--- a filter keeps all, or none
-pub filter_all : {X : Type 0} (p : X → Bool) (xs : List X) → All (λ x. p x ≡ true) xs → filter p xs ≡ xs
-filter_all p [] all = refl
-filter_all p (x ∷ xs) all =
-    let first : p x ≡ true = all 0 x (omega arith) in
-    rw first (ap (λ (ys : List _). x ∷ ys) (filter_all p xs (λ k d lt. all (suc k) d (omega arith))))
-
-pub filter_none : {X : Type 0} (p : X → Bool) (xs : List X) → All (λ x. p x ≡ false) xs → filter p xs ≡ []
-filter_none p [] all = refl
-filter_none p (x ∷ xs) all =
-    let first : p x ≡ false = all 0 x (omega arith) in
-    rw first (filter_none p xs (λ k d lt. all (suc k) d (omega arith)))

@@ -1,11 +1,9 @@
 -- A task of which no kind of fault holds has a row. Nothing is said of how it is found.
-use Rattle.std.proofs.Common.{◌≡◌, ◌≢◌, ◌↔◌, ℕ, zero, suc, ◌+◌, ◌<◌, ◌≤◌, ℤ, pos, true, List, [], ◌∷◌, ◌++◌, length, map, get_or, Option, unwrap_or, refl, sym, ap, subst, ◌∙◌, ⊎_elim, arith}
+use Rattle.std.proofs.Common.{◌≡◌, ◌≢◌, ◌↔◌, ℕ, zero, suc, ◌+◌, ◌<◌, ℤ, pos, true, List, [], ◌∷◌, ◌++◌, length, map, get_or, Option, unwrap_or, refl, sym, ap, subst, ⊎_elim, arith}
 use Rattle.std.specs.List.{Any, Contains}
 use Rattle.std.specs.List.Sorted.{IsStrictlyIncreasing}
 use Rattle.std.proofs.lemmas.Bool.{cases_eq}
 use Rattle.std.proofs.lemmas.List.Elements.{Contains-append_left, Contains-push, Contains-push_cases}
-use Rattle.dd_kernels.specs.declared.kernel.Kernel.{Kernel}
-use Rattle.dd_kernels.specs.Names.{name_of}
 use Rattle.dd_views.specs.IndexList.{index_list}
 use Rattle.dd_views.specs.Views.{HasBadRange}
 use Rattle.dd_views.proofs.SomeLemmas.{some_view}

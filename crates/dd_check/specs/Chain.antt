@@ -9,7 +9,6 @@ use Rattle.dd_check.specs.declared.kind.Kind.{Kind}
 use Rattle.dd_check.specs.declared.kind.Kind.TheVariants.{UnknownName, NameTaken, LateMachine, NoProc, BadShape, UnknownKernel, ArgCount, BadAccess, BadRange, NotSquare, ShapeMismatch, WrongPlace, TooMany, BlockTooLarge, TaskTooLarge}
 use Rattle.dd_check.specs.Above.{Above}
 use Rattle.dd_check.specs.Faults.{IsFirstOf, IsRefused, IsUnread, Plain}
-use Rattle.dd_check.specs.Kinds.{HasLargeBlock}
 
 -- on names, the machine and edges; on a kernel and its arguments; on the views of a task; on where a statement stands; on
 -- what there would be then

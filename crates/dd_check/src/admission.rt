@@ -109,17 +109,10 @@ fn admit_task(
     ensures counts { OnOk result (Counts draft.new) }
     ensures fault { IfErr result (λ e. IsFoundOr e line (above_of draft.old) (Task kernel.now scalar pieces.now) kinds) }
 {
-    let k = match kernel_of(line, kernel, scalar, pieces) {
-        Ok(k) => k,
-        Err(fault) => return Err(AcceptFault::Script(fault)),
-    };
-    let accesses = match accesses_by(alloc, draft, line, k, pieces) {
-        Ok(accesses) => accesses,
-        Err(e) => return Err(e),
-    };
-    let region = match &draft.opened {
-        Some(region) => region,
-        None => return Err(AcceptFault::Script(Fault::plain(line, Kind::WrongPlace))),
+    let k = kernel_of(line, kernel, scalar, pieces)?;
+    let accesses = accesses_by(alloc, draft, line, k, pieces)?;
+    let Some(region) = &draft.opened else {
+        return Err(AcceptFault::Script(Fault::plain(line, Kind::WrongPlace)));
     };
     let row = task_row(alloc, draft, region, line, k, scalar.unwrap_or(0), accesses)?;
     admit_row(draft, line, row)
@@ -139,13 +132,11 @@ fn admit_other(alloc: Global, draft: &mut Draft, line: u32, x: Statement) -> Res
     if is_misplaced(draft, &x) {
         return Err(AcceptFault::Script(Fault::plain(line, Kind::WrongPlace)));
     }
-    match passed_by(draft, &x) {
-        Some(limit) => return Err(too_many(line, limit)),
-        None => {}
+    if let Some(limit) = passed_by(draft, &x) {
+        return Err(too_many(line, limit));
     }
-    match large_block(draft, line, &x) {
-        Some(fault) => return Err(AcceptFault::Script(fault)),
-        None => {}
+    if let Some(fault) = large_block(draft, line, &x) {
+        return Err(AcceptFault::Script(fault));
     }
     enter(alloc, draft, line, x)?;
     Ok(())
@@ -160,9 +151,8 @@ fn admit_found(alloc: Global, draft: &mut Draft, line: u32, x: Statement) -> Res
     ensures counts { OnOk result (Counts draft.new) }
     ensures fault { IfErr result (λ e. IsFoundOr e line (above_of draft.old) x kinds) }
 {
-    match name_kind(draft, &x) {
-        Some(kind) => return Err(AcceptFault::Script(Fault::plain(line, kind))),
-        None => {}
+    if let Some(kind) = name_kind(draft, &x) {
+        return Err(AcceptFault::Script(Fault::plain(line, kind)));
     }
     if let Statement::Task {
         kernel,

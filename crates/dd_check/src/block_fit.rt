@@ -18,7 +18,7 @@ use crate::draft::Draft;
 use crate::edges::grid_of;
 use crate::fault::Fault;
 use crate::kind::Kind;
-use crate::lookup::space_named;
+use crate::lookup::space_of;
 use dd_blocks::{Grid, Name};
 use dd_script::Statement;
 
@@ -81,7 +81,7 @@ fn large_at_target(draft: &Draft, line: u32, name: &Name, space: &Name) -> Optio
     ensures { IsLargeFault draft.now.plan line (placed_blocks (above_of draft.now) (Statement.MoveTo name.now space.now)) result }
 {
     let grid = grid_at(draft, array_of(draft, name));
-    let space = space_named(&draft.plan, space).unwrap_or(0);
+    let space = space_of(&draft.plan, space);
     let limit = limit_of(draft, space);
     let needed = needed(&grid, 0);
     if needed > limit {

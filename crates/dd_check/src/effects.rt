@@ -1,7 +1,7 @@
 //! What a statement leaves.
 ghost use Rattle.std.specs.Prelude.{◌≡◌, ◌≢◌, false, true, None, OnOk};
 ghost use Rattle.dd_script.specs.declared.statement.Statement.TheVariants as statement;
-ghost use Rattle.dd_check.specs.Above.{array_named, is_machine};
+ghost use Rattle.dd_check.specs.Above.{array_named, is_machine, space_named};
 ghost use Rattle.dd_check.specs.Chain.{is_task};
 ghost use Rattle.dd_check.specs.Drafts.{Counts, IsSoundDraft, above_of};
 ghost use Rattle.dd_check.specs.Effects.{Enters};
@@ -11,7 +11,7 @@ use crate::array::array_of;
 use crate::array_names::{add_name, drop_name};
 use crate::context::is_machine;
 use crate::draft::Draft;
-use crate::lookup::space_named;
+use crate::lookup::space_of;
 use crate::new_array::make;
 use crate::opened::Opened;
 use crate::region_end::close_region;
@@ -32,11 +32,12 @@ fn add_space(draft: &mut Draft, line: u32, name: Name, limit: u64) -> Result<(),
 
 /// One more processor.
 fn add_proc(draft: &mut Draft, line: u32, name: Name, space: &Name) -> Result<(), AllocError>
-    requires { IsSoundDraft draft.old }
+    requires sound { IsSoundDraft draft.old }
+    requires space { space_named draft.old.plan space.now ≢ None }
     ensures entered { OnOk result (Enters line (above_of draft.old) (statement.Proc name space.now) (above_of draft.new)) }
     ensures counts { OnOk result (Counts draft.new) }
 {
-    let space = space_named(&draft.plan, space).unwrap_or(0);
+    let space = space_of(&draft.plan, space);
     draft.plan.procs.push(ProcRow { name, space })?;
     Ok(())
 }
@@ -45,6 +46,7 @@ fn add_proc(draft: &mut Draft, line: u32, name: Name, space: &Name) -> Result<()
 fn enter_machine(draft: &mut Draft, line: u32, x: Statement) -> Result<(), AllocError>
     requires sound { IsSoundDraft draft.old }
     requires machine { is_machine x ≡ true }
+    requires clear { AreClear line (above_of draft.old) x kinds }
     ensures enters { OnOk result (Enters line (above_of draft.old) x (above_of draft.new)) }
     ensures counts { OnOk result (Counts draft.new) }
 {
@@ -67,11 +69,12 @@ fn enter_machine(draft: &mut Draft, line: u32, x: Statement) -> Result<(), Alloc
 fn add_move(draft: &mut Draft, line: u32, name: &Name, space: &Name) -> Result<(), AllocError>
     requires sound { IsSoundDraft draft.old }
     requires known { array_named (above_of draft.old) name.now ≢ None }
+    requires space { space_named draft.old.plan space.now ≢ None }
     ensures entered { OnOk result (Enters line (above_of draft.old) (statement.MoveTo name.now space.now) (above_of draft.new)) }
     ensures counts { OnOk result (Counts draft.new) }
 {
     let array = array_of(draft, name);
-    let space = space_named(&draft.plan, space).unwrap_or(0);
+    let space = space_of(&draft.plan, space);
     touch(draft, line, array, What::MoveTo { array, space })
 }
 

@@ -1,5 +1,5 @@
 ghost use Rattle.std.specs.Prelude.{◌≡◌};
-ghost use Rattle.dd_check.specs.declared.fault.AcceptFault.TheVariants.{Memory};
+ghost use Rattle.dd_check.specs.declared.fault.AcceptFault.TheVariants.{Memory, Script};
 
 use crate::kind::Kind;
 use std::alloc::{AllocError, AllocFailed};
@@ -37,6 +37,14 @@ pub enum AcceptFault {
     Script(Fault),
     /// Want of memory.
     Memory,
+}
+
+impl From<Fault> for AcceptFault {
+    ghost from_gives = { λ fault e. e ≡ Script fault };
+
+    fn from(fault: Fault) -> AcceptFault {
+        AcceptFault::Script(fault)
+    }
 }
 
 impl From<AllocError> for AcceptFault {

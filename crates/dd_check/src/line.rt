@@ -32,12 +32,6 @@ pub(crate) fn said(alloc: Global, line: u32, bytes: &[u8]) -> Result<Option<Stat
     ensures reads { IfOk result (λ x. Reads bytes.now x) }
     ensures fault { IfErr result (λ e. IsUnreadOr e line bytes.now) }
 {
-    let tokens = match tokens(alloc, bytes) {
-        Ok(tokens) => tokens,
-        Err(fault) => return Err(unread(line, fault)),
-    };
-    match statement_of(alloc, bytes, &tokens) {
-        Ok(found) => Ok(found),
-        Err(fault) => Err(unread(line, fault)),
-    }
+    let tokens = tokens(alloc, bytes).map_err(|fault| unread(line, fault))?;
+    statement_of(alloc, bytes, &tokens).map_err(|fault| unread(line, fault))
 }

@@ -1,5 +1,5 @@
 //! The names that a statement speaks of, and the one that it gives.
-ghost use Rattle.std.specs.Prelude.{◌≡◌, ◌<◌, ◌≤◌, ◌↔◌, None, IsTrue, IfSome, length, position};
+ghost use Rattle.std.specs.Prelude.{◌≡◌, ◌≢◌, ◌<◌, ◌≤◌, ◌↔◌, None, IsTrue, IfSome, length, position, unwrap_or};
 ghost use Rattle.std.specs.Str.{bytes_eq};
 ghost use Rattle.dd_blocks.specs.declared.proc_row.ProcRow.{ProcRow};
 ghost use Rattle.dd_blocks.specs.declared.space_row.SpaceRow.{SpaceRow};
@@ -38,6 +38,19 @@ pub(crate) fn space_named(plan: &Plan, name: &Name) -> Option<u32>
     match space_at(plan.spaces.as_slice(), name.as_bytes()) {
         Some(place) => Some(place as u32 + 1),
         None => None,
+    }
+}
+
+/// The number of the space of a name that is there.
+pub(crate) fn space_of(plan: &Plan, name: &Name) -> u32
+    requires few { length plan.now.spaces ≤ spaces_limit }
+    requires known { space_named plan.now name.now ≢ None }
+    ensures value { result ≡ unwrap_or (space_named plan.now name.now) 0 }
+    ensures within { IsNumberIn plan.now.spaces result }
+{
+    match space_named(plan, name) {
+        Some(space) => space,
+        None => unreachable!(),
     }
 }
 

@@ -48,18 +48,12 @@ pub fn accept(alloc: Global, text: &[u8]) -> Result<Plan, AcceptFault>
     let mut above = 0;
     while !rest.is_empty() {
         let (line, below) = first_line(rest);
-        match read_line(alloc, &mut draft, above, line) {
-            Ok(()) => {}
-            Err(e) => return Err(e),
-        }
+        read_line(alloc, &mut draft, above, line)?;
         above += 1;
         rest = below;
     }
-    match &draft.opened {
-        Some(region) => {
-            return Err(AcceptFault::Script(Fault::plain(region.line, Kind::UnendedRegion)));
-        }
-        None => {}
+    if let Some(region) = &draft.opened {
+        return Err(AcceptFault::Script(Fault::plain(region.line, Kind::UnendedRegion)));
     }
     settle(alloc, &mut draft)?;
     Ok(draft.plan)

@@ -20,7 +20,7 @@ returns-in-Some-clause-fault c =
 pub admit_task-requires-clause-named : goal.admit_task-requires-clause-named
 admit_task-requires-clause-named c =
     subst (λ (y : Statement). AreClear c.args.line (above_of c.args.draft.now) y name_kinds)
-    (c.in-Task.is ∙ ap (λ (ps : List Piece). Task c.in-Task.kernel c.in-Task.scalar ps) (sym c.as_slice.ensures)) (c.in-None.ensures c.args.line)
+    (c.in-Task.is ∙ ap (λ (ps : List Piece). Task c.in-Task.kernel c.in-Task.scalar ps) (sym c.as_slice.ensures)) (c.in_default.ensures c.args.line)
 
 pub returns-in-Task-clause-clear : goal.returns-in-Task-clause-clear
 returns-in-Task-clause-clear c =

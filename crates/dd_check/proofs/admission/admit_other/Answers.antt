@@ -28,18 +28,18 @@ returns-in-Some-large_block-clause-fault c =
     size_answer (Script c.in-Some-large_block.fault) c.args.line (above_of c.args.draft.now) c.args.x (c.requires.named c.args.line)
     (no_arguments c.args.line (above_of c.args.draft.now) c.args.x c.requires.other) (no_views c.args.line (above_of c.args.draft.now) c.args.x c.requires.other)
     (place_clear c.args.line (above_of c.args.draft.now) c.args.x (λ h. absurd (cc (c.if-is_misplaced.ensures.1 h))))
-    (record { line = c.in-Some-large_block.ensures.0; first = inr (c.in-None.ensures c.args.line, inl (c.in-Some-large_block.ensures.1, c.in-Some-large_block.ensures.2)) })
+    (record { line = c.in-Some-large_block.ensures.0; first = inr (c.in_default.ensures c.args.line, inl (c.in-Some-large_block.ensures.1, c.in-Some-large_block.ensures.2)) })
 
 pub enter-requires-clause-clear : goal.enter-requires-clause-clear
 enter-requires-clause-clear c =
     all_clear c.args.line (above_of c.args.draft.now) c.args.x (c.requires.named c.args.line)
     (no_arguments c.args.line (above_of c.args.draft.now) c.args.x c.requires.other) (no_views c.args.line (above_of c.args.draft.now) c.args.x c.requires.other)
     (place_clear c.args.line (above_of c.args.draft.now) c.args.x (λ h. absurd (cc (c.if-is_misplaced.ensures.1 h))))
-    (c.in-None.ensures c.args.line, (c.in-None-large_block.ensures, (no_large_task c.args.line (above_of c.args.draft.now) c.args.x c.requires.other, tt)))
+    (c.in_default.ensures c.args.line, (c.in_default-large_block.ensures, (no_large_task c.args.line (above_of c.args.draft.now) c.args.x c.requires.other, tt)))
 
 pub returns-clause-clear : goal.returns-clause-clear
 returns-clause-clear c =
     all_clear c.args.line (above_of c.args.draft.now) c.args.x (c.requires.named c.args.line)
     (no_arguments c.args.line (above_of c.args.draft.now) c.args.x c.requires.other) (no_views c.args.line (above_of c.args.draft.now) c.args.x c.requires.other)
     (place_clear c.args.line (above_of c.args.draft.now) c.args.x (λ h. absurd (cc (c.if-is_misplaced.ensures.1 h))))
-    (c.in-None.ensures c.args.line, (c.in-None-large_block.ensures, (no_large_task c.args.line (above_of c.args.draft.now) c.args.x c.requires.other, tt)))
+    (c.in_default.ensures c.args.line, (c.in_default-large_block.ensures, (no_large_task c.args.line (above_of c.args.draft.now) c.args.x c.requires.other, tt)))

@@ -10,7 +10,7 @@ needed-needed-requires-clause-within c = some_block _ c.grid_at-grid.ensures.gri
 pub returns-then-needed-limit : goal.returns-then-needed-limit
 returns-then-needed-limit c =
     let grid = rw c.array_of.ensures.value at c.grid_at-grid.ensures.value in
-    let limit = rw (c.unwrap_or-space.ensures, c.space_named.ensures.value) at c.limit_of-limit.ensures in
+    let limit = rw c.space_of-space.ensures.value at c.limit_of-limit.ensures in
     let needed = rw grid at c.needed-needed.ensures in
     let is_grid = rw grid at c.grid_at-grid.ensures.grid in
     moved_large c.args.draft.now.plan _ _ _ (array_row c.args.draft.now.plan (array_of_name (above_of c.args.draft.now) c.args.name.now)) c.args.line c.needed-needed.result c.limit_of-limit.result c.large.result is_grid limit needed c.if-needed-limit.true c.large.ensures
@@ -18,6 +18,6 @@ returns-then-needed-limit c =
 pub returns : goal.returns
 returns c =
     let grid = rw c.array_of.ensures.value at c.grid_at-grid.ensures.value in
-    let limit = rw (c.unwrap_or-space.ensures, c.space_named.ensures.value) at c.limit_of-limit.ensures in
+    let limit = rw c.space_of-space.ensures.value at c.limit_of-limit.ensures in
     let needed = rw grid at c.needed-needed.ensures in
     moved_small c.args.draft.now.plan _ _ _ (array_row c.args.draft.now.plan (array_of_name (above_of c.args.draft.now) c.args.name.now)) c.args.line c.needed-needed.result c.limit_of-limit.result limit needed c.if-needed-limit.false
