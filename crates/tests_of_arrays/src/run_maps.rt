@@ -76,3 +76,53 @@ fn map_of(rt: &impl Abort, alloc: Global, len: u32, sets: Sets) -> Result<RunMap
     }
     Ok(map)
 }
+
+/// How many places, runs that are set where all are 0, from which place on and below which places are asked for, and the value
+/// there and the end of its run.
+const RUNS: [(u32, Sets, (u64, u64), (u32, u64)); 7] = [
+    (6, &[(1, 3, 5)], (1, 6), (5, 4)),
+    (6, &[(1, 3, 5)], (1, 3), (5, 3)),
+    (6, &[(1, 3, 5)], (2, 3), (5, 3)),
+    (6, &[(1, 3, 5)], (0, 6), (0, 1)),
+    (6, &[(1, 3, 5)], (4, 6), (0, 6)),
+    (6, &[], (0, 1), (0, 1)),
+    (1, &[(0, 1, 7)], (0, 1), (7, 1)),
+];
+
+#[test]
+fn runs_end_where_less_is_asked(rt: HostRuntime) -> Result<(), Fail> {
+    for (len, sets, (place, end), wanted) in &RUNS {
+        let map = map_of(&rt, rt.alloc(), *len, sets)?;
+        assert!(rt; *place < *end && *end <= map.len());
+        assert_eq!(rt; map.run_at(*place, *end), *wanted, "{place} to {end}");
+    }
+    Ok(())
+}
+
+/// Runs that are set in two maps of six places, the place and the count that the first takes of the second, and its values then.
+const COPIES: [(Sets, Sets, (u64, u64), [u32; 6]); 5] = [
+    (&[], &[(1, 3, 5)], (0, 6), [0, 5, 5, 5, 0, 0]),
+    (&[], &[(1, 3, 5)], (0, 2), [0, 5, 0, 0, 0, 0]),
+    (&[(0, 6, 2)], &[(1, 3, 5)], (3, 2), [2, 2, 2, 5, 0, 2]),
+    (&[(0, 6, 2)], &[(1, 3, 5)], (5, 1), [2, 2, 2, 2, 2, 0]),
+    (&[(0, 6, 2)], &[(1, 3, 5)], (6, 0), [2, 2, 2, 2, 2, 2]),
+];
+
+#[test]
+fn runs_are_copied(rt: HostRuntime) -> Result<(), Fail> {
+    for (ours, theirs, (first, count), wanted) in &COPIES {
+        let mut map = map_of(&rt, rt.alloc(), 6, ours)?;
+        let other = map_of(&rt, rt.alloc(), 6, theirs)?;
+        assert!(rt; *first <= 6 && *count <= 6 - *first && map.len() == 6 && other.len() == 6);
+        map.reserve(2 * *count)?;
+        map.copy_run(&other, *first, *count);
+        for place in 0..map.len() {
+            assert_eq!(rt;
+                Some(&map.get(place)),
+                wanted.get(place as usize),
+                "{place} of {wanted:?}"
+            );
+        }
+    }
+    Ok(())
+}

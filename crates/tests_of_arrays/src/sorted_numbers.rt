@@ -163,3 +163,25 @@ fn push_run(numbers: &mut Vec<u64>, first: u64, count: u64) -> Result<(), AllocE
     }
     Ok(())
 }
+
+/// Numbers, and all their runs, one after the other.
+const WALKS: [(&[u64], &[(u64, u64)]); 5] = [
+    (&[], &[]),
+    (&[4], &[(4, 1)]),
+    (&[0, 1, 2], &[(0, 3)]),
+    (&[7, 1, 2, 3], &[(1, 3), (7, 1)]),
+    (&[0, 2, 4, 5, 7], &[(0, 1), (2, 1), (4, 2), (7, 1)]),
+];
+
+#[test]
+fn a_cursor_goes_through_the_runs(rt: HostRuntime) -> Result<(), Fail> {
+    for (list, wanted) in &WALKS {
+        let runs = runs_of(&rt, rt.alloc(), list)?;
+        let mut left = runs.cursor();
+        for run in *wanted {
+            assert_eq!(rt; left.next_run(), Some(*run), "{list:?}");
+        }
+        assert_eq!(rt; left.next_run(), None, "{list:?}");
+    }
+    Ok(())
+}
