@@ -23,7 +23,7 @@ use Rattle.dd_meaning.specs.Steps.{world_after}
 use Rattle.dd_meaning.specs.Text.{moved_above, moved_line, printed, printed_by, row_text, summed, world_at}
 use Rattle.dd_meaning.specs.Versions.{tasks_through}
 use Rattle.dd_meaning.specs.Worlds.{World, values_of}
-use Rattle.dd_plain.specs.declared.run.Run.{Run}
+use Rattle.dd_plain.specs.declared.run.RunState.{RunState}
 use Rattle.dd_plain.specs.Lists.{lists_of}
 use Rattle.dd_transfers.specs.Rest.{NoneAsks}
 use Rattle.dd_meaning.specs.RegionRows.{what_at}
@@ -47,15 +47,12 @@ named_print plan what n named is = subst (StatementNamesRows plan) is named
 pub named_sum : (plan : Plan) (what : What) (n : ℕ) (name : List ℕ) → StatementNamesRows plan what → what ≡ Sum n name → IsNumberIn plan.arrays n
 named_sum plan what n name named is = subst (StatementNamesRows plan) is named
 
--- its values and its grid
+-- its values
 pub values_at : (plan : Plan) (world : List (Vec ℤ)) (n : ℕ) (values : List ℤ) (v : Vec ℤ) → IsNumberIn plan.arrays n → HasSizes plan.arrays (lists_of world) → v ≡ get_or world (n - 1) v → values ≡ v.items → values ≡ values_of (lists_of world) n
 values_at plan world n values v named sizes is value =
     let many = as_many plan.arrays (lists_of world) sizes in
     let count = length-map world (λ (w : Vec ℤ). w.items) in
     value ∙ ap (λ (w : Vec ℤ). w.items) is ∙ holds_values world n v named.0 (omega (arith, named.1, many, count))
-
-pub grid_at : (plan : Plan) (arrays : List ArrayRow) (n : ℕ) (d : ArrayRow) → IsNumberIn plan.arrays n → arrays ≡ plan.arrays → (get_or arrays (n - 1) d).grid ≡ (array_row plan n).grid
-grid_at plan arrays n d named same = ap (λ (l : List ArrayRow). (get_or l (n - 1) d).grid) same ∙ ap (λ (a : ArrayRow). a.grid) (row_at no_array d plan.arrays n named)
 
 pub size_at : (plan : Plan) (world : List (Vec ℤ)) (n : ℕ) (values : List ℤ) (grid : Grid) → HasSizes plan.arrays (lists_of world) → values ≡ values_of (lists_of world) n → grid ≡ (array_row plan n).grid → length values ≡ element_count grid
 size_at plan world n values grid sizes value same = ap length value ∙ has_size plan.arrays (lists_of world) n sizes ∙ sym (ap element_count same)
@@ -114,14 +111,14 @@ asks_above plan asked i last lt is =
     (cases_lt i asked)
 
 -- the text of a row
-pub text_at : (plan : Plan) (rows : List StatementRow) (i : ℕ) (d : StatementRow) (world : List (Vec ℤ)) (run : Run) → rows ≡ plan.statements → i < length plan.statements → HasRun plan i run
+pub text_at : (plan : Plan) (rows : List StatementRow) (i : ℕ) (d : StatementRow) (world : List (Vec ℤ)) (run : RunState) → rows ≡ plan.statements → i < length plan.statements → HasRun plan i run
     → world ≡ run.world.items → printed_by plan (lists_of world) run.moved (get_or rows i d).what ≡ row_text plan i
 text_at plan rows i d world run same lt begun is =
     ap2 (λ (w : World) (what : What). printed_by plan w run.moved what) (ap lists_of is ∙ begun.world) (is_at plan rows i d same lt)
     ∙ printed_anyway plan (what_at plan i) (world_at plan i) run.moved (moved_above plan i) (λ asks. begun.moved (asks_above plan run.moves.asked i begun.rest.last lt asks))
 
 -- a row that runs no region, and the next
-pub run_past : (plan : Plan) (i : ℕ) (d : StatementRow) (run next : Run) → IsWellFormed plan → i < length plan.statements → region_run (get_or plan.statements i d).what ≡ None
+pub run_past : (plan : Plan) (i : ℕ) (d : StatementRow) (run next : RunState) → IsWellFormed plan → i < length plan.statements → region_run (get_or plan.statements i d).what ≡ None
     → HasRun plan i run → next.world.items ≡ run.world.items → next.moved ≡ run.moved → next.moves.asked ≡ run.moves.asked → next.moves.marks.items ≡ run.moves.marks.items
     → next.moves.homes.items ≡ homes_after run.moves.homes.items (get_or plan.statements i d).what → HasRun plan (i + 1) next
 run_past plan i d run next well lt other begun world count asked marks homes =

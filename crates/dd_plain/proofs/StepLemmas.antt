@@ -23,7 +23,7 @@ use Rattle.dd_blocks.specs.Tasks.{MeetsKernel, kernel_shape, shape_in, shapes_in
 use Rattle.dd_meaning.specs.Steps.{computed, gathered, put_at, step, stored, stored_one}
 use Rattle.dd_meaning.specs.Worlds.{World, values_of}
 use Rattle.dd_plain.specs.Lending.{AreHeld, AreThere, all_back_in, all_places, held, is_lent, places_in, without, without_all}
-use Rattle.dd_plain.specs.declared.runs.Run.{Run}
+use Rattle.dd_plain.specs.declared.runs.Segment.{Segment}
 use Rattle.dd_plain.specs.Lists.{lists_of}
 use Rattle.dd_plain.specs.Runs.{AreBeside, Wrote, WroteBoth, all_at, all_put, positions}
 use Rattle.dd_plain.specs.Sizes.{CanRun, HasSizes, IsInArray}
@@ -167,20 +167,20 @@ beside_stepped world task a b ps qs new kernel two is same a_is b_is wrote =
     ∙ ap (stored world task.accesses) made
 
 -- such accesses, and where their runs stand
-pub beside_in_array : (arrays : List ArrayRow) (task : TaskRow) (x y : Run) → CanRun arrays task → (beside : AreBeside task.accesses x y) → IsInArray arrays beside.first × IsInArray arrays beside.second
+pub beside_in_array : (arrays : List ArrayRow) (task : TaskRow) (x y : Segment) → CanRun arrays task → (beside : AreBeside task.accesses x y) → IsInArray arrays beside.first × IsInArray arrays beside.second
 beside_in_array arrays task x y can beside =
     let all = subst (All (IsInArray arrays)) beside.two can.accesses in
     (all_first arrays beside.first (beside.second ∷ []) all, all_first arrays beside.second [] (all_others arrays beside.first (beside.second ∷ []) all))
 
 -- the vector of their array holds its values
-beside_values : (arrays : List ArrayRow) (world : List (Vec ℤ)) (task : TaskRow) (accesses : List AccessRow) (x y : Run) (d : AccessRow) (e : Vec ℤ) (old : List ℤ) → CanRun arrays task → HasSizes arrays (lists_of world) → accesses ≡ task.accesses → (beside : AreBeside task.accesses x y) → old ≡ (get_or world ((get_or accesses 0 d).view.array - 1) e).items → old ≡ values_of (lists_of world) beside.first.view.array
+beside_values : (arrays : List ArrayRow) (world : List (Vec ℤ)) (task : TaskRow) (accesses : List AccessRow) (x y : Segment) (d : AccessRow) (e : Vec ℤ) (old : List ℤ) → CanRun arrays task → HasSizes arrays (lists_of world) → accesses ≡ task.accesses → (beside : AreBeside task.accesses x y) → old ≡ (get_or world ((get_or accesses 0 d).view.array - 1) e).items → old ≡ values_of (lists_of world) beside.first.view.array
 beside_values arrays world task accesses x y d e old can sizes same beside old_is =
     let here = (beside_in_array arrays task x y can beside).0 in
     let found : get_or accesses 0 d ≡ beside.first = ap (λ (l : List AccessRow). get_or l 0 d) (same ∙ beside.two) in
     let high : beside.first.view.array ≤ length world = omega (arith, here.named.1, as_many arrays (lists_of world) sizes, length-map world (λ (v : Vec ℤ). v.items)) in
     old_is ∙ ap (λ (b : AccessRow). (get_or world (b.view.array - 1) e).items) found ∙ holds_values world beside.first.view.array e here.named.0 high
 
-pub beside_within : (arrays : List ArrayRow) (world : List (Vec ℤ)) (task : TaskRow) (accesses : List AccessRow) (x y : Run) (d : AccessRow) (e : Vec ℤ) (old : List ℤ) → CanRun arrays task → HasSizes arrays (lists_of world) → accesses ≡ task.accesses → AreBeside task.accesses x y → old ≡ (get_or world ((get_or accesses 0 d).view.array - 1) e).items → (x.first + x.count ≤ length old) × (y.first + y.count ≤ length old)
+pub beside_within : (arrays : List ArrayRow) (world : List (Vec ℤ)) (task : TaskRow) (accesses : List AccessRow) (x y : Segment) (d : AccessRow) (e : Vec ℤ) (old : List ℤ) → CanRun arrays task → HasSizes arrays (lists_of world) → accesses ≡ task.accesses → AreBeside task.accesses x y → old ≡ (get_or world ((get_or accesses 0 d).view.array - 1) e).items → (x.first + x.count ≤ length old) × (y.first + y.count ≤ length old)
 beside_within arrays world task accesses x y d e old can sizes same beside old_is =
     let both = beside_in_array arrays task x y can beside in
     let long = ap length (beside_values arrays world task accesses x y d e old can sizes same beside old_is) ∙ has_size arrays (lists_of world) beside.first.view.array sizes in
@@ -189,7 +189,7 @@ beside_within arrays world task accesses x y d e old can sizes same beside old_i
       omega (arith, long, one, beside.y_within (shape_in (numbered no_array arrays beside.second.view.array)) both.1.view),
     )
 
-pub beside_written : (arrays : List ArrayRow) (world : List (Vec ℤ)) (task : TaskRow) (accesses : List AccessRow) (x y : Run) (d : AccessRow) (e : Vec ℤ) (old new : List ℤ) (s t : Shape) → CanRun arrays task → HasSizes arrays (lists_of world) → accesses ≡ task.accesses → AreBeside task.accesses x y → old ≡ (get_or world ((get_or accesses 0 d).view.array - 1) e).items → length new ≡ length old → s ≡ kernel_shape (get_or accesses 0 d).view → t ≡ kernel_shape (get_or accesses 1 d).view → WroteBoth task.kernel task.scalar (s ∷ t ∷ []) (positions x) (positions y) old new → lists_of (set world ((get_or accesses 0 d).view.array - 1) (with_items (get_or world ((get_or accesses 0 d).view.array - 1) e) new)) ≡ step (lists_of world) task
+pub beside_written : (arrays : List ArrayRow) (world : List (Vec ℤ)) (task : TaskRow) (accesses : List AccessRow) (x y : Segment) (d : AccessRow) (e : Vec ℤ) (old new : List ℤ) (s t : Shape) → CanRun arrays task → HasSizes arrays (lists_of world) → accesses ≡ task.accesses → AreBeside task.accesses x y → old ≡ (get_or world ((get_or accesses 0 d).view.array - 1) e).items → length new ≡ length old → s ≡ kernel_shape (get_or accesses 0 d).view → t ≡ kernel_shape (get_or accesses 1 d).view → WroteBoth task.kernel task.scalar (s ∷ t ∷ []) (positions x) (positions y) old new → lists_of (set world ((get_or accesses 0 d).view.array - 1) (with_items (get_or world ((get_or accesses 0 d).view.array - 1) e) new)) ≡ step (lists_of world) task
 beside_written arrays world task accesses x y d e old new s t can sizes same beside old_is long s_is t_is wrote =
     let a : AccessRow = beside.first in
     let place : ℕ = a.view.array - 1 in

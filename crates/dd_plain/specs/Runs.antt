@@ -11,17 +11,17 @@ use Rattle.dd_views.specs.IndexList.{index_list}
 use Rattle.dd_views.specs.Views.{IsViewOf}
 use Rattle.dd_blocks.specs.declared.access_row.AccessRow.{AccessRow}
 use Rattle.dd_meaning.specs.Steps.{put_at}
-use Rattle.dd_plain.specs.declared.runs.Run.{Run}
+use Rattle.dd_plain.specs.declared.runs.Segment.{Segment}
 
-abbrev pub positions : Run → List ℕ
+abbrev pub positions : Segment → List ℕ
 positions run = range_with_len run.first run.count
 
 -- no position is in both runs
-abbrev pub AreApart : Run → Run → Type 0
+abbrev pub AreApart : Segment → Segment → Type 0
 AreApart x y = (x.first + x.count ≤ y.first) ⊎ (y.first + y.count ≤ x.first)
 
 -- there are two accesses, of one array, and they are these runs of it, which are apart
-pub record AreBeside (accesses : List AccessRow) (x y : Run) : Type 0 where
+pub record AreBeside (accesses : List AccessRow) (x y : Segment) : Type 0 where
   pub first : AccessRow
   pub second : AccessRow
   pub two : accesses ≡ first ∷ second ∷ []

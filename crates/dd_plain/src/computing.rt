@@ -9,7 +9,7 @@ ghost use Rattle.dd_plain.specs.Lists.{lists_of};
 ghost use Rattle.dd_plain.specs.Runs.{AreApart, Wrote, WroteBoth, positions};
 
 use crate::lending::is_lent;
-use crate::runs::{Run, run_of};
+use crate::runs::{Segment, run_of};
 use dd_apply::{apply_to_one, apply_to_three, apply_to_two};
 use dd_blocks::{AccessRow, TaskRow};
 use dd_kernels::Shape;
@@ -123,7 +123,7 @@ fn compute_three(
 
 /// Where the elements of an access stand among what is held of it: as the view says where that is its array, or
 /// else everywhere.
-fn place_of(task: &TaskRow, access: &AccessRow, count: usize) -> Run
+fn place_of(task: &TaskRow, access: &AccessRow, count: usize) -> Segment
     requires { IsHeld (is_lent task.now.accesses) access.now count }
     ensures positions { positions result ≡ places_in (is_lent task.now.accesses) access.now count }
     ensures within { result.first + result.count ≤ count }
@@ -132,7 +132,7 @@ fn place_of(task: &TaskRow, access: &AccessRow, count: usize) -> Run
     if is_lent(task.accesses.as_slice(), access) {
         run_of(&access.view)
     } else {
-        Run { first: 0, count }
+        Segment { first: 0, count }
     }
 }
 
@@ -150,7 +150,7 @@ pub(crate) fn kernel_shape(view: &View) -> Shape
 }
 
 /// Runs a kernel on a run of a list.
-fn run_one(task: &TaskRow, shape: Shape, at: Run, x: &mut [i64])
+fn run_one(task: &TaskRow, shape: Shape, at: Segment, x: &mut [i64])
     requires fit { ShapesFit task.now.kernel (shape ∷ []) }
     requires within { at.first + at.count ≤ length x.old }
     requires filled { at.count ≡ size_of shape }
@@ -165,7 +165,13 @@ fn run_one(task: &TaskRow, shape: Shape, at: Run, x: &mut [i64])
 }
 
 /// Runs a kernel on runs of two lists.
-fn run_two(task: &TaskRow, shapes: (Shape, Shape), at: (Run, Run), x: &mut [i64], y: &mut [i64])
+fn run_two(
+    task: &TaskRow,
+    shapes: (Shape, Shape),
+    at: (Segment, Segment),
+    x: &mut [i64],
+    y: &mut [i64],
+)
     requires fit { ShapesFit task.now.kernel (shapes.0 ∷ shapes.1 ∷ []) }
     requires x_within { at.0.first + at.0.count ≤ length x.old }
     requires y_within { at.1.first + at.1.count ≤ length y.old }
@@ -182,7 +188,7 @@ fn run_two(task: &TaskRow, shapes: (Shape, Shape), at: (Run, Run), x: &mut [i64]
 fn run_three(
     task: &TaskRow,
     shapes: (Shape, Shape, Shape),
-    at: (Run, Run, Run),
+    at: (Segment, Segment, Segment),
     x: &mut [i64],
     y: &[i64],
     z: &[i64],
@@ -204,7 +210,12 @@ fn run_three(
 }
 
 /// Runs a kernel on two runs of one list.
-pub(crate) fn run_beside(task: &TaskRow, shapes: (Shape, Shape), at: (Run, Run), values: &mut [i64])
+pub(crate) fn run_beside(
+    task: &TaskRow,
+    shapes: (Shape, Shape),
+    at: (Segment, Segment),
+    values: &mut [i64],
+)
     requires fit { ShapesFit task.now.kernel (shapes.0 ∷ shapes.1 ∷ []) }
     requires apart { AreApart at.0 at.1 }
     requires x_within { at.0.first + at.0.count ≤ length values.old }
@@ -216,14 +227,14 @@ pub(crate) fn run_beside(task: &TaskRow, shapes: (Shape, Shape), at: (Run, Run),
     let (x, y) = at;
     if x.first + x.count <= y.first {
         let (front, back) = values.split_at_mut(y.first);
-        let y = Run {
+        let y = Segment {
             first: 0,
             count: y.count,
         };
         run_two(task, shapes, (x, y), front, back);
     } else {
         let (front, back) = values.split_at_mut(x.first);
-        let x = Run {
+        let x = Segment {
             first: 0,
             count: x.count,
         };

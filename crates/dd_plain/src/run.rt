@@ -1,10 +1,8 @@
 //! The rows of a Plan in their order.
-ghost use Rattle.std.specs.Prelude.{◌≡◌, ◌+◌, ◌<◌, ◌≤◌, length, OnOk, OnErr, IfOk, IsErrOf};
-ghost use Rattle.std.specs.Io.KnownBytes.{Appends};
-ghost use Rattle.dd_causes.specs.Counts.{Rose};
-ghost use Rattle.dd_causes.specs.Appended.{AppendsFront};
+ghost use Rattle.std.specs.Prelude.{◌≡◌, ◌+◌, ◌<◌, ◌≤◌, length, OnOk, IfOk};
 ghost use Rattle.dd_blocks.specs.WellFormed.{IsWellFormed, StatementNamesRows};
 ghost use Rattle.dd_meaning.specs.Text.{printed_by, row_text, text_of};
+ghost use Rattle.dd_text.specs.Writes.{Writes};
 ghost use Rattle.dd_plain.specs.Lists.{lists_of};
 ghost use Rattle.dd_meaning.specs.RegionRows.{RunsAt};
 ghost use Rattle.dd_plain.specs.Rows.{HasRun};
@@ -26,11 +24,7 @@ use std::alloc::{AllocError, Global};
 /// a front of the text.
 pub fn run_plain<O: Sink>(alloc: Global, plan: &Plan, out: &mut O) -> Result<(), PlainFault>
     requires { IsWellFormed plan.now }
-    ensures all { OnOk result (Appends (O.taken out.old) (O.taken out.new) (text_of plan.now)) }
-    ensures front { OnErr result (AppendsFront (O.taken out.old) (O.taken out.new) (text_of plan.now)) }
-    ensures cause { IsErrOf result PlainFault.WriteFault → Rose (O.faults out.old) (O.faults out.new) }
-    ensures kept { (¬ IsErrOf result PlainFault.WriteFault) → O.faults out.new ≡ O.faults out.old }
-    ensures later { O.faults out.old ≤ O.faults out.new }
+    ensures { Writes (text_of plan.now) result (O.taken out.old) (O.taken out.new) (O.faults out.old) (O.faults out.new) }
 {
     let mut run = begin(alloc, plan)?;
     run_rows(alloc, plan, &mut run, out)
@@ -38,7 +32,7 @@ pub fn run_plain<O: Sink>(alloc: Global, plan: &Plan, out: &mut O) -> Result<(),
 
 /// What a run has.
 #[derive(Drop)]
-pub(crate) struct Run {
+pub(crate) struct RunState {
     /// The arrays, in the order of their numbers.
     world: Vec<Vec<i64>>,
     moves: Moves,
@@ -49,11 +43,11 @@ pub(crate) struct Run {
 }
 
 /// A run before its first row.
-fn begin(alloc: Global, plan: &Plan) -> Result<Run, AllocError>
+fn begin(alloc: Global, plan: &Plan) -> Result<RunState, AllocError>
     requires { IsWellFormed plan.now }
     ensures { IfOk result (HasRun plan.now 0) }
 {
-    Ok(Run {
+    Ok(RunState {
         world: filled_world(alloc, plan.arrays.as_slice())?,
         moves: Moves::new(alloc, plan)?,
         line: Vec::new(alloc),
@@ -65,16 +59,12 @@ fn begin(alloc: Global, plan: &Plan) -> Result<Run, AllocError>
 fn run_rows<O: Sink>(
     alloc: Global,
     plan: &Plan,
-    run: &mut Run,
+    run: &mut RunState,
     out: &mut O,
 ) -> Result<(), PlainFault>
     requires well { IsWellFormed plan.now }
     requires begun { HasRun plan.now 0 run.old }
-    ensures all { OnOk result (Appends (O.taken out.old) (O.taken out.new) (text_of plan.now)) }
-    ensures front { OnErr result (AppendsFront (O.taken out.old) (O.taken out.new) (text_of plan.now)) }
-    ensures cause { IsErrOf result PlainFault.WriteFault → Rose (O.faults out.old) (O.faults out.new) }
-    ensures kept { (¬ IsErrOf result PlainFault.WriteFault) → O.faults out.new ≡ O.faults out.old }
-    ensures later { O.faults out.old ≤ O.faults out.new }
+    ensures { Writes (text_of plan.now) result (O.taken out.old) (O.taken out.new) (O.faults out.old) (O.faults out.new) }
 {
     let rows = plan.statements.as_slice();
     for i in 0..rows.len() {
@@ -88,18 +78,14 @@ fn run_row<O: Sink>(
     alloc: Global,
     plan: &Plan,
     i: usize,
-    run: &mut Run,
+    run: &mut RunState,
     out: &mut O,
 ) -> Result<(), PlainFault>
     requires well { IsWellFormed plan.now }
     requires within { i < length plan.now.statements }
     requires begun { HasRun plan.now i run.old }
     ensures ran { OnOk result (HasRun plan.now (i + 1) run.new) }
-    ensures all { OnOk result (Appends (O.taken out.old) (O.taken out.new) (row_text plan.now i)) }
-    ensures front { OnErr result (AppendsFront (O.taken out.old) (O.taken out.new) (row_text plan.now i)) }
-    ensures cause { IsErrOf result PlainFault.WriteFault → Rose (O.faults out.old) (O.faults out.new) }
-    ensures kept { (¬ IsErrOf result PlainFault.WriteFault) → O.faults out.new ≡ O.faults out.old }
-    ensures later { O.faults out.old ≤ O.faults out.new }
+    ensures written { Writes (row_text plan.now i) result (O.taken out.old) (O.taken out.new) (O.faults out.old) (O.faults out.new) }
 {
     let what = &plan.statements.as_slice()[i].what;
     if let What::Region(region) = what {
@@ -115,7 +101,7 @@ fn run_region(
     plan: &Plan,
     i: usize,
     region: u32,
-    run: &mut Run,
+    run: &mut RunState,
 ) -> Result<(), AllocError>
     requires well { IsWellFormed plan.now }
     requires row { RunsAt plan.now i region }
@@ -140,17 +126,13 @@ fn write_row<O: Sink>(
 ) -> Result<(), PlainFault>
     requires named { StatementNamesRows plan.now what.now }
     requires sizes { HasSizes plan.now.arrays (lists_of world.now) }
-    ensures all { OnOk result (Appends (O.taken out.old) (O.taken out.new) (printed_by plan.now (lists_of world.now) moved what.now)) }
-    ensures front { OnErr result (AppendsFront (O.taken out.old) (O.taken out.new) (printed_by plan.now (lists_of world.now) moved what.now)) }
-    ensures cause { IsErrOf result PlainFault.WriteFault → Rose (O.faults out.old) (O.faults out.new) }
-    ensures kept { (¬ IsErrOf result PlainFault.WriteFault) → O.faults out.new ≡ O.faults out.old }
-    ensures later { O.faults out.old ≤ O.faults out.new }
+    ensures { Writes (printed_by plan.now (lists_of world.now) moved what.now)
+        result (O.taken out.old) (O.taken out.new) (O.faults out.old) (O.faults out.new) }
 {
     match what {
         What::Print(array) => {
             let place = *array as usize - 1;
-            let grid = plan.arrays.as_slice()[place].grid;
-            print_array(alloc, line, grid, &world[place], out)
+            print_array(alloc, line, plan.array(*array).grid, &world[place], out)
         }
         What::Sum { array, name } => {
             let place = *array as usize - 1;

@@ -13,13 +13,13 @@ use dd_views::View;
 
 /// Positions of an array, from 0: `count` of them, from `first` on.
 #[derive(Clone, Copy)]
-pub(crate) struct Run {
+pub(crate) struct Segment {
     pub first: usize,
     pub count: usize,
 }
 
 /// The run that a view is. It begins at 0 where there are no elements.
-pub(crate) fn run_of(view: &View) -> Run
+pub(crate) fn run_of(view: &View) -> Segment
     requires view { IsView view.now }
     requires run { is_run view.now ≡ true }
     ensures positions { index_list view.now ≡ positions result }
@@ -27,17 +27,17 @@ pub(crate) fn run_of(view: &View) -> Run
 {
     let count = view.len();
     if count == 0 {
-        return Run { first: 0, count: 0 };
+        return Segment { first: 0, count: 0 };
     }
     let last = view.at(count - 1);
-    Run {
+    Segment {
         first: (last + 1 - count) as usize,
         count: count as usize,
     }
 }
 
 /// The runs of two accesses of one array that share no element. `None` is for all others.
-pub(crate) fn beside(accesses: &[AccessRow]) -> Option<(Run, Run)>
+pub(crate) fn beside(accesses: &[AccessRow]) -> Option<(Segment, Segment)>
     requires { All (λ (a : AccessRow). IsView a.view) accesses.now }
     ensures { IfSome result (λ at. AreBeside accesses.now at.0 at.1) }
 {

@@ -2,7 +2,6 @@
 ghost use Rattle.std.specs.Prelude.{◌≡◌, false, length, map, OnOk, IfOk, All};
 ghost use Rattle.std.specs.List.{fold};
 ghost use Rattle.dd_views.specs.IndexList.{index_list};
-ghost use Rattle.dd_blocks.specs.Elements.{writes};
 ghost use Rattle.dd_meaning.specs.Steps.{step};
 ghost use Rattle.dd_plain.specs.Lending.{AreHeld, AreThere, all_back_in, back_in, held, is_lent, without, without_all};
 ghost use Rattle.dd_plain.specs.Lists.{lists_of};
@@ -12,10 +11,9 @@ ghost use Rattle.dd_plain.specs.Sizes.{CanRun, HasSizeOf, HasSizes, IsInArray};
 use crate::computing::{compute, kernel_shape, run_beside};
 use crate::gathering::gather;
 use crate::lending::is_lent;
-use crate::runs::{Run, beside};
+use crate::runs::{Segment, beside};
 use crate::storing::store;
 use dd_blocks::{AccessRow, ArrayRow, TaskRow};
-use dd_kernels::Mode;
 use std::alloc::{AllocError, Global};
 use std::mem::replace;
 
@@ -59,7 +57,7 @@ fn run_task(
 }
 
 /// Runs a task whose two accesses are runs of one array, which are apart.
-fn run_in_place(arrays: &[ArrayRow], world: &mut [Vec<i64>], task: &TaskRow, at: (Run, Run))
+fn run_in_place(arrays: &[ArrayRow], world: &mut [Vec<i64>], task: &TaskRow, at: (Segment, Segment))
     requires can { CanRun arrays.now task.now }
     requires sizes { HasSizes arrays.now (lists_of world.old) }
     requires beside { AreBeside task.now.accesses at.0 at.1 }
@@ -172,17 +170,7 @@ fn return_to(
     let place = access.view.array as usize - 1;
     if is_lent(accesses, access) {
         world[place] = buf;
-    } else if writes(access.mode) {
+    } else if access.writes() {
         store(&mut world[place], &access.view, &buf);
-    }
-}
-
-/// Whether an access of the mode writes.
-fn writes(mode: Mode) -> bool
-    ensures { result ≡ writes mode }
-{
-    match mode {
-        Mode::Read => false,
-        Mode::Write | Mode::Both => true,
     }
 }

@@ -1,12 +1,11 @@
 //! Bands of rows. Where columns are long, the numbers of a row stand far from each other, and those of some rows are
 //! gathered at once.
-ghost use Rattle.std.specs.Prelude.{◌≡◌, ℕ, ◌+◌, ◌-◌, ◌*◌, ◌<◌, ◌≤◌, ◌++◌, length, min, drop, take, OnOk, OnErr, IsErrOf};
+ghost use Rattle.std.specs.Prelude.{◌≡◌, ℕ, ◌+◌, ◌-◌, ◌*◌, ◌<◌, ◌≤◌, ◌++◌, length, min, drop, take, OnOk};
 ghost use Rattle.std.specs.List.{flat_map, range_with_len};
-ghost use Rattle.dd_causes.specs.Counts.{Rose};
-ghost use Rattle.dd_causes.specs.Appended.{AppendsAllBut, AppendsFront};
 ghost use Rattle.dd_blocks.specs.Grids.{element_count};
 ghost use Rattle.dd_meaning.specs.Text.{printed_row, printed};
 ghost use Rattle.dd_text.specs.Bands.{band_of};
+ghost use Rattle.dd_text.specs.Writes.{WritesAllBut};
 
 use crate::fault::PrintFault;
 use crate::row::print_rows;
@@ -56,13 +55,8 @@ fn print_band<O: Sink>(
 ) -> Result<(), PrintFault>
     requires within { first < grid.rows }
     requires filled { length values.now ≡ element_count grid }
-    ensures all { OnOk result (AppendsAllBut (O.taken out.old) (O.taken out.new) rows.new.items
-        (rows.old.items ++ flat_map (printed_row grid values.now) (range_with_len first (min 16 (grid.rows - first))))) }
-    ensures front { OnErr result (AppendsFront (O.taken out.old) (O.taken out.new)
-        (rows.old.items ++ flat_map (printed_row grid values.now) (range_with_len first (min 16 (grid.rows - first))))) }
-    ensures cause { IsErrOf result PrintFault.WriteFault → Rose (O.faults out.old) (O.faults out.new) }
-    ensures kept { (¬ IsErrOf result PrintFault.WriteFault) → O.faults out.new ≡ O.faults out.old }
-    ensures later { O.faults out.old ≤ O.faults out.new }
+    ensures { WritesAllBut rows.new.items (rows.old.items ++ flat_map (printed_row grid values.now) (range_with_len first (min 16 (grid.rows - first))))
+        result (O.taken out.old) (O.taken out.new) (O.faults out.old) (O.faults out.new) }
 {
     let height = HEIGHT.min(grid.rows - first);
     gather_band(band, grid, values, first, height)?;
@@ -82,11 +76,8 @@ pub(crate) fn print_bands<O: Sink>(
     out: &mut O,
 ) -> Result<(), PrintFault>
     requires { length values.now ≡ element_count grid }
-    ensures all { OnOk result (AppendsAllBut (O.taken out.old) (O.taken out.new) rows.new.items (rows.old.items ++ printed grid values.now)) }
-    ensures front { OnErr result (AppendsFront (O.taken out.old) (O.taken out.new) (rows.old.items ++ printed grid values.now)) }
-    ensures cause { IsErrOf result PrintFault.WriteFault → Rose (O.faults out.old) (O.faults out.new) }
-    ensures kept { (¬ IsErrOf result PrintFault.WriteFault) → O.faults out.new ≡ O.faults out.old }
-    ensures later { O.faults out.old ≤ O.faults out.new }
+    ensures { WritesAllBut rows.new.items (rows.old.items ++ printed grid values.now)
+        result (O.taken out.old) (O.taken out.new) (O.faults out.old) (O.faults out.new) }
 {
     for k in 0..grid.rows.div_ceil(HEIGHT) {
         print_band(rows, band, grid, values, k * HEIGHT, out)?;

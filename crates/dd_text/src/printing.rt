@@ -1,12 +1,10 @@
 //! What is printed: arrays by many rows together, sums and moved elements by a line, each by one `write_all`.
-ghost use Rattle.std.specs.Prelude.{◌≡◌, ℕ, ◌<◌, ◌≤◌, ◌∷◌, ◌++◌, [], length, codes, OnOk, OnErr, IsErrOf};
+ghost use Rattle.std.specs.Prelude.{◌≡◌, ℕ, ◌<◌, ◌≤◌, ◌∷◌, ◌++◌, [], length, codes, OnOk};
 ghost use Rattle.std.specs.Fmt.{decimal, signed_decimal};
-ghost use Rattle.std.specs.Io.KnownBytes.{Appends};
-ghost use Rattle.dd_causes.specs.Counts.{Rose};
-ghost use Rattle.dd_causes.specs.Appended.{AppendsFront};
 ghost use Rattle.dd_blocks.specs.Grids.{element_count};
 ghost use Rattle.dd_kernels.specs.Lists.{element, sum_below, wrapped};
 ghost use Rattle.dd_meaning.specs.Text.{printed, summed, moved_line};
+ghost use Rattle.dd_text.specs.Writes.{Writes};
 
 use crate::band::print_bands;
 use crate::fault::PrintFault;
@@ -25,11 +23,7 @@ pub fn print_array<O: Sink>(
     out: &mut O,
 ) -> Result<(), PrintFault>
     requires { length values.now ≡ element_count grid }
-    ensures all { OnOk result (Appends (O.taken out.old) (O.taken out.new) (printed grid values.now)) }
-    ensures front { OnErr result (AppendsFront (O.taken out.old) (O.taken out.new) (printed grid values.now)) }
-    ensures cause { IsErrOf result PrintFault.WriteFault → Rose (O.faults out.old) (O.faults out.new) }
-    ensures kept { (¬ IsErrOf result PrintFault.WriteFault) → O.faults out.new ≡ O.faults out.old }
-    ensures later { O.faults out.old ≤ O.faults out.new }
+    ensures { Writes (printed grid values.now) result (O.taken out.old) (O.taken out.new) (O.faults out.old) (O.faults out.new) }
 {
     rows.clear();
     let mut band = Vec::new(alloc);
@@ -69,11 +63,7 @@ pub fn print_sum<O: Sink>(
     values: &[i64],
     out: &mut O,
 ) -> Result<(), PrintFault>
-    ensures all { OnOk result (Appends (O.taken out.old) (O.taken out.new) (summed name.now values.now)) }
-    ensures front { OnErr result (AppendsFront (O.taken out.old) (O.taken out.new) (summed name.now values.now)) }
-    ensures cause { IsErrOf result PrintFault.WriteFault → Rose (O.faults out.old) (O.faults out.new) }
-    ensures kept { (¬ IsErrOf result PrintFault.WriteFault) → O.faults out.new ≡ O.faults out.old }
-    ensures later { O.faults out.old ≤ O.faults out.new }
+    ensures { Writes (summed name.now values.now) result (O.taken out.old) (O.taken out.new) (O.faults out.old) (O.faults out.new) }
 {
     put_sum(line, name, values)?;
     write_all(out, line)?;
@@ -94,11 +84,7 @@ fn put_moved(line: &mut Vec<u8>, moved: u64) -> Result<(), AllocError>
 
 /// Writes how many elements were moved so far.
 pub fn print_moved<O: Sink>(line: &mut Vec<u8>, moved: u64, out: &mut O) -> Result<(), PrintFault>
-    ensures all { OnOk result (Appends (O.taken out.old) (O.taken out.new) (moved_line moved)) }
-    ensures front { OnErr result (AppendsFront (O.taken out.old) (O.taken out.new) (moved_line moved)) }
-    ensures cause { IsErrOf result PrintFault.WriteFault → Rose (O.faults out.old) (O.faults out.new) }
-    ensures kept { (¬ IsErrOf result PrintFault.WriteFault) → O.faults out.new ≡ O.faults out.old }
-    ensures later { O.faults out.old ≤ O.faults out.new }
+    ensures { Writes (moved_line moved) result (O.taken out.old) (O.taken out.new) (O.faults out.old) (O.faults out.new) }
 {
     put_moved(line, moved)?;
     write_all(out, line)?;

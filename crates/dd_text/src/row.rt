@@ -1,12 +1,10 @@
 //! Rows of an array, many of them written together.
-ghost use Rattle.std.specs.Prelude.{◌≡◌, ℕ, ◌+◌, ◌*◌, ◌<◌, ◌≤◌, ◌∷◌, ◌++◌, Bool, [], length, OnOk, OnErr, if◌then◌else◌, IsErrOf};
+ghost use Rattle.std.specs.Prelude.{◌≡◌, ℕ, ◌+◌, ◌*◌, ◌<◌, ◌≤◌, ◌∷◌, ◌++◌, Bool, [], length, OnOk, if◌then◌else◌};
 ghost use Rattle.std.specs.Fmt.{signed_decimal};
-ghost use Rattle.std.specs.Io.KnownBytes.{Appends};
-ghost use Rattle.dd_causes.specs.Counts.{Rose};
-ghost use Rattle.dd_causes.specs.Appended.{AppendsAllBut, AppendsFront};
 ghost use Rattle.dd_blocks.specs.Grids.{element_count};
 ghost use Rattle.dd_kernels.specs.Lists.{element};
 ghost use Rattle.dd_meaning.specs.Text.{printed_row, printed};
+ghost use Rattle.dd_text.specs.Writes.{Writes, WritesAllBut};
 
 use crate::fault::PrintFault;
 use dd_blocks::Grid;
@@ -51,12 +49,8 @@ const ENOUGH: usize = 65_536;
 
 /// Writes the rows that wait, and none waits then.
 pub(crate) fn write_rows<O: Sink>(rows: &mut Vec<u8>, out: &mut O) -> Result<(), PrintFault>
-    ensures all { OnOk result (Appends (O.taken out.old) (O.taken out.new) rows.old.items) }
+    ensures written { Writes rows.old.items result (O.taken out.old) (O.taken out.new) (O.faults out.old) (O.faults out.new) }
     ensures none { OnOk result (rows.new.items ≡ []) }
-    ensures front { OnErr result (AppendsFront (O.taken out.old) (O.taken out.new) rows.old.items) }
-    ensures cause { IsErrOf result PrintFault.WriteFault → Rose (O.faults out.old) (O.faults out.new) }
-    ensures kept { (¬ IsErrOf result PrintFault.WriteFault) → O.faults out.new ≡ O.faults out.old }
-    ensures later { O.faults out.old ≤ O.faults out.new }
 {
     write_all(out, rows)?;
     rows.clear();
@@ -73,11 +67,8 @@ fn print_row<O: Sink>(
 ) -> Result<(), PrintFault>
     requires within { i < grid.rows }
     requires filled { length values.now ≡ element_count grid }
-    ensures all { OnOk result (AppendsAllBut (O.taken out.old) (O.taken out.new) rows.new.items (rows.old.items ++ printed_row grid values.now i)) }
-    ensures front { OnErr result (AppendsFront (O.taken out.old) (O.taken out.new) (rows.old.items ++ printed_row grid values.now i)) }
-    ensures cause { IsErrOf result PrintFault.WriteFault → Rose (O.faults out.old) (O.faults out.new) }
-    ensures kept { (¬ IsErrOf result PrintFault.WriteFault) → O.faults out.new ≡ O.faults out.old }
-    ensures later { O.faults out.old ≤ O.faults out.new }
+    ensures { WritesAllBut rows.new.items (rows.old.items ++ printed_row grid values.now i)
+        result (O.taken out.old) (O.taken out.new) (O.faults out.old) (O.faults out.new) }
 {
     push_row(rows, grid, values, i)?;
     if rows.len() < ENOUGH {
@@ -94,11 +85,8 @@ pub(crate) fn print_rows<O: Sink>(
     out: &mut O,
 ) -> Result<(), PrintFault>
     requires { length values.now ≡ element_count grid }
-    ensures all { OnOk result (AppendsAllBut (O.taken out.old) (O.taken out.new) rows.new.items (rows.old.items ++ printed grid values.now)) }
-    ensures front { OnErr result (AppendsFront (O.taken out.old) (O.taken out.new) (rows.old.items ++ printed grid values.now)) }
-    ensures cause { IsErrOf result PrintFault.WriteFault → Rose (O.faults out.old) (O.faults out.new) }
-    ensures kept { (¬ IsErrOf result PrintFault.WriteFault) → O.faults out.new ≡ O.faults out.old }
-    ensures later { O.faults out.old ≤ O.faults out.new }
+    ensures { WritesAllBut rows.new.items (rows.old.items ++ printed grid values.now)
+        result (O.taken out.old) (O.taken out.new) (O.faults out.old) (O.faults out.new) }
 {
     for i in 0..grid.rows {
         print_row(rows, grid, values, i, out)?;

@@ -1,8 +1,7 @@
-use Rattle.std.proofs.Common.{List, OnOk, OnErr, get_or, refl, ap, sym, subst, ◌∙◌}
-use Rattle.std.specs.Io.KnownBytes.{Appends}
-use Rattle.dd_causes.specs.Appended.{AppendsFront}
+use Rattle.std.proofs.Common.{List, get_or, refl, ap, sym, subst, ◌∙◌}
 use Rattle.dd_blocks.specs.declared.statement_row.StatementRow.{StatementRow}
 use Rattle.dd_blocks.specs.ArrayHomes.{homes_after}
+use Rattle.dd_text.specs.Writes.{Writes}
 use Rattle.dd_plain.proofs.RowLemmas.{anyway_on_ok, has_room, is_at, other_row, run_past, text_at}
 use Rattle.dd_plain.proofs.run.run_row.Goals as goal
 
@@ -30,9 +29,5 @@ returns g c =
     let text = text_at plan rows i row c.deref.result.now run c.as_slice.ensures c.requires.within begun c.deref.ensures.value in
     record {
       ran = anyway_on_ok c.write_row.result (run_past plan i row run _ c.requires.well c.requires.within other begun refl refl c.follow.ensures.asked c.follow.ensures.marks homes);
-      all = subst (λ bytes. OnOk c.write_row.result (Appends (g.O.Sink.taken c.args.out.now) (g.O.Sink.taken c.write_row.new.out) bytes)) text c.write_row.ensures.all;
-      front = subst (λ bytes. OnErr c.write_row.result (AppendsFront (g.O.Sink.taken c.args.out.now) (g.O.Sink.taken c.write_row.new.out) bytes)) text c.write_row.ensures.front;
-      cause = c.write_row.ensures.cause;
-      kept = c.write_row.ensures.kept;
-      later = c.write_row.ensures.later;
+      written = subst (λ bytes. Writes bytes c.write_row.result (g.O.Sink.taken c.args.out.now) (g.O.Sink.taken c.write_row.new.out) (g.O.Sink.faults c.args.out.now) (g.O.Sink.faults c.write_row.new.out)) text c.write_row.ensures;
     }

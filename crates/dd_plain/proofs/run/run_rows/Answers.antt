@@ -1,4 +1,4 @@
-use Rattle.std.proofs.Common.{◌≡◌, ◌-◌, ◌<◌, length, refl, sym, ap, subst, ◌∙◌, arith}
+use Rattle.std.proofs.Common.{◌≡◌, ◌-◌, ◌<◌, length, refl, sym, ap, subst, ◌∙◌, arith, rules}
 use Rattle.std.specs.List.{flat_map, range_with_len}
 use Rattle.std.specs.Io.KnownBytes.{Appends}
 use Rattle.std.proofs.lemmas.List.{append-nil}
@@ -25,19 +25,32 @@ loop-i-preserved g c =
     let within : c.loop-i.i < length c.args.plan.now.statements = omega (arith, c.loop-i-test.true, ap length c.as_slice-rows.ensures) in
     let next = next_left (row_text c.args.plan.now) c.loop-i.i (length c.args.plan.now.statements) within in
     record {
-      written = all_but_more c.loop-i.invariant.written _ _ next c.in_ok-run_row.ensures.all;
+      written = all_but_more c.loop-i.invariant.written _ _ next c.in_ok-run_row.ensures.written.all;
       ran = c.in_ok-run_row.ensures.ran;
-      kept = c.in_ok-run_row.ensures.kept (λ h. absurd (cc)) ∙ c.loop-i.invariant.kept;
+      kept = c.in_ok-run_row.ensures.written.kept (λ h. absurd (cc)) ∙ c.loop-i.invariant.kept;
     }
 
-pub returns-in_err-run_row-clause-front : goal.returns-in_err-run_row-clause-front
-returns-in_err-run_row-clause-front g c =
+pub returns-in_err-run_row : goal.returns-in_err-run_row
+returns-in_err-run_row g c =
     let within : c.loop-i.i < length c.args.plan.now.statements = omega (arith, c.loop-i-test.true, ap length c.as_slice-rows.ensures) in
     let next = next_left (row_text c.args.plan.now) c.loop-i.i (length c.args.plan.now.statements) within in
-    anyway_on_err _ (front_in_piece c.loop-i.invariant.written _ _ next c.in_err-run_row.ensures.front)
+    let written = c.in_err-run_row.ensures.written in
+    record {
+      all = search rules;
+      front = anyway_on_err _ (front_in_piece c.loop-i.invariant.written _ _ next written.front);
+      cause = search (rules, written.cause);
+      kept = search (rules, written.kept);
+      later = search (rules, written.later);
+    }
 
-pub returns-clause-all : goal.returns-clause-all
-returns-clause-all g c =
+pub returns : goal.returns
+returns g c =
     let none : length c.args.plan.now.statements - c.loop-i.i ≡ 0 = omega (arith, c.loop-i-test.false, ap length c.as_slice-rows.ensures) in
     let written = subst (λ n. AppendsAllBut (g.O.Sink.taken c.args.out.now) (g.O.Sink.taken c.loop-i.out) (flat_map (row_text c.args.plan.now) (range_with_len c.loop-i.i n)) (text_of c.args.plan.now)) none c.loop-i.invariant.written in
-    subst (Appends (g.O.Sink.taken c.args.out.now) (g.O.Sink.taken c.loop-i.out)) (sym (written.split ∙ append-nil written.done)) written.grown
+    record {
+      all = subst (Appends (g.O.Sink.taken c.args.out.now) (g.O.Sink.taken c.loop-i.out)) (sym (written.split ∙ append-nil written.done)) written.grown;
+      front = search rules;
+      cause = search rules;
+      kept = search rules;
+      later = search rules;
+    }

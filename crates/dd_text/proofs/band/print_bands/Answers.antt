@@ -1,4 +1,4 @@
-use Rattle.std.proofs.Common.{◌≡◌, ◌+◌, ◌-◌, ◌*◌, ◌++◌, min, sym, ap, subst, ◌∙◌, arith}
+use Rattle.std.proofs.Common.{◌≡◌, ◌+◌, ◌-◌, ◌*◌, ◌++◌, min, sym, ap, subst, ◌∙◌, arith, rules}
 use Rattle.std.specs.List.{flat_map, range_with_len}
 use Rattle.std.proofs.lemmas.List.{append_assoc}
 use Rattle.dd_causes.specs.Appended.{AppendsAllBut}
@@ -9,12 +9,18 @@ use Rattle.dd_text.proofs.BandLemmas.{next_band}
 use Rattle.dd_text.proofs.RowLemmas.{waiting_more}
 use Rattle.dd_text.proofs.band.print_bands.Goals as goal
 
-pub returns-in_err-print_band-clause-front : goal.returns-in_err-print_band-clause-front
-returns-in_err-print_band-clause-front g c =
+pub returns-in_err-print_band : goal.returns-in_err-print_band
+returns-in_err-print_band g c =
     let first = c.loop-k.k * 16 in
     let next = next_band (printed_row c.args.grid c.args.values.now) first 16 c.args.grid.rows in
     let band = flat_map (printed_row c.args.grid c.args.values.now) (range_with_len first (min 16 (c.args.grid.rows - first))) in
-    anyway_on_err _ (front_in_piece c.loop-k.invariant.0 (c.loop-k.rows.items ++ band) _ (ap (λ l. c.loop-k.rows.items ++ l) next ∙ sym (append_assoc c.loop-k.rows.items band _)) c.in_err-print_band.ensures.front)
+    record {
+      all = search rules;
+      front = anyway_on_err _ (front_in_piece c.loop-k.invariant.0 (c.loop-k.rows.items ++ band) _ (ap (λ l. c.loop-k.rows.items ++ l) next ∙ sym (append_assoc c.loop-k.rows.items band _)) c.in_err-print_band.ensures.front);
+      cause = search rules;
+      kept = search rules;
+      later = search rules;
+    }
 
 pub loop-k-preserved : goal.loop-k-preserved
 loop-k-preserved g c =
