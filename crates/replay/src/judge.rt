@@ -1,5 +1,4 @@
 //! Journals judged, entry by entry.
-ghost use Rattle.std.specs.Prelude.{◌+◌, ◌≤◌, length};
 ghost use Rattle.dd_blocks.specs.WellFormed.{IsWellFormed};
 ghost use Rattle.dd_core.specs.Cores.{IsCoreOf};
 
