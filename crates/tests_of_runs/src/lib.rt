@@ -1,4 +1,4 @@
-//! Tests of whole runs and of what they stand on: of `dd_io`, `dd_check`, `dd_plain` and `dd_session`.
+//! Tests of whole runs and of what they stand on: of `dd_io`, `dd_check`, `dd_text`, `dd_plain` and `dd_session`.
 //!
 //! This crate has tests alone, and no other crate stands on it. Whole scripts that print or are refused stand in the tables
 //! of `tests/`, which the built program runs; here are ends that give and take few bytes, fail, or are called once too
@@ -14,6 +14,8 @@ mod every_statement;
 mod failing_ends;
 #[cfg(test)]
 mod memory_runs;
+#[cfg(test)]
+mod printed_lines;
 #[cfg(test)]
 mod scripts;
 #[cfg(test)]
