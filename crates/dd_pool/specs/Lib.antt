@@ -4,4 +4,5 @@ pub mod Places
 pub mod Held
 pub mod Copies
 pub mod Spilled
+pub mod Outs
 pub mod Pools

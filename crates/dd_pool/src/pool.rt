@@ -1,6 +1,7 @@
 ghost use Rattle.std.specs.Prelude.{◌≡◌, ℕ, ◌+◌, ◌-◌, ◌^◌, ◌≤◌, ◌<◌, length};
 ghost use Rattle.dd_blocks.specs.Numbered.{IsNumberIn};
 ghost use Rattle.dd_blocks.specs.WellFormed.{IsWellFormed};
+ghost use Rattle.dd_pool.specs.Outs.{AreSlotsOf, AreSlotsOf-prop};
 ghost use Rattle.dd_pool.specs.Places.{IsPlace, cell_count};
 
 use crate::cells::Cells;
@@ -25,10 +26,12 @@ pub struct Pool<'p, D: Store> {
     ghost few: { cell_count plan.now < 2 ^ 63 },
     ghost deep: { length outs.keys.items ≡ cell_count plan.now },
     ghost listed: { length names.items ≡ length plan.now.arrays },
+    // Each slot is of the Plan, and of the block of its cell.
+    ghost ours: { AreSlotsOf plan outs } by { AreSlotsOf-prop plan outs },
 }
 
 impl<'p, D: Store> Pool<'p, D> {
-    ghost use Rattle.std.specs.Prelude.{◌≢◌, Some, None, IfOk, OnOk, IfErr, OnErr, IsSome, IsSomeAnd, option_copied};
+    ghost use Rattle.std.specs.Prelude.{◌≢◌, Some, None, IfOk, OnOk, IfErr, OnErr, IfSome, IsSome, IsSomeAnd, option_copied};
     ghost use Rattle.dd_stamps.specs.Copies.{MayStore, MayTake, Stores, TakesFrom};
     ghost use Rattle.dd_pool.specs.Copies.{HasMoreSpare, HasRoomFor, HoldsSame};
     ghost use Rattle.dd_pool.specs.Keys.{AreBoth, AreThree};
@@ -147,7 +150,7 @@ impl<'p, D: Store> Pool<'p, D> {
         self.copies.store_outputs(space, block, work);
     }
 
-    /// Puts a slot beside the copies, for a block of which the space has neither a copy nor a slot.
+    /// Puts a slot of the Plan beside the copies, for its block, of which the space has neither a copy nor a slot.
     ///
     /// # Errors
     /// Want of memory. The slot comes back, and the pool is as before.
@@ -158,6 +161,8 @@ impl<'p, D: Store> Pool<'p, D> {
         out: Spilled<'p, D::Slot>,
     ) -> Result<(), (Spilled<'p, D::Slot>, AllocError)>
         requires place { IsPlace self.old.plan.now space block }
+        requires plan { out.plan ≡ self.old.plan }
+        requires block { out.block ≡ block }
         requires no_copy { copy_at self.old space block ≡ None }
         requires no_slot { out_at self.old space block ≡ None }
         ensures ok { OnOk result (HasOut self.old self.new space block (Some out.entry)) }
@@ -175,6 +180,7 @@ impl<'p, D: Store> Pool<'p, D> {
     pub fn take_out(&mut self, space: u32, block: u32) -> Option<Spilled<'p, D::Slot>>
         requires { IsPlace self.old.plan.now space block }
         ensures value { result ≡ out_at self.old space block }
+        ensures ours { IfSome result (λ out. (out.plan ≡ self.old.plan) × (out.block ≡ block)) }
         ensures left { HasOut self.old self.new space block None }
     {
         self.outs.take(place_of(self.plan, space, block))

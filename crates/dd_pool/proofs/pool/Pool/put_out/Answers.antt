@@ -1,6 +1,11 @@
 use Rattle.std.proofs.Common.{Some, refl}
 use Rattle.dd_pool.proofs.HeldLemmas.{at_place, elsewhere_of}
+use Rattle.dd_pool.proofs.OutsLemmas.{put_slots}
 use Rattle.dd_pool.proofs.pool.Pool.put_out.Goals as goal
+
+pub invariant_of-self-clause-ours : goal.invariant_of-self-clause-ours
+invariant_of-self-clause-ours g c =
+    put_slots c.args.self.now.plan c.args.self.now.outs c.put.new.self c.args.space c.args.block _ c.args.out c.put.result c.requires.place c.place_of.ensures.value c.put.ensures.ok c.put.ensures.err c.args.self.now.ours c.requires.plan c.requires.block
 
 pub returns-in-Ok-clause-ok : goal.returns-in-Ok-clause-ok
 returns-in-Ok-clause-ok g c =
