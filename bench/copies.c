@@ -9,10 +9,13 @@ int main(int argc, char **argv) {
     if (argc < 3) return 1;
     size_t elements = 1000000;
     long times = atol(argv[2]);
-    int64_t *ours = calloc(elements, 8), *theirs = calloc(elements, 8);
+    int64_t *ours = malloc(elements * 8), *theirs = malloc(elements * 8);
     uint32_t *our_versions = malloc(elements * 4), *their_versions = malloc(elements * 4);
     if (!ours || !theirs || !our_versions || !their_versions) return 1;
-    for (size_t i = 0; i < elements; i++) our_versions[i] = their_versions[i] = UINT32_MAX;
+    for (size_t i = 0; i < elements; i++) {
+        ours[i] = theirs[i] = 0;
+        our_versions[i] = their_versions[i] = UINT32_MAX;
+    }
     for (long n = 0; n < times; n++) {
         memcpy(ours, theirs, elements * 8);
         memcpy(our_versions, their_versions, elements * 4);
