@@ -17,15 +17,21 @@ fn failing(alloc: Global, make: u32, append: u32, read: u32) -> Result<MemStore,
     Ok(MemStore::new(alloc, makes, appends, reads))
 }
 
-// Each row: what `make` answers, and then how many slots were made and how many faults were counted.
+// Each row: which `make` fails, what each answers, and then how many slots were made and how many faults were counted.
 #[test]
-fn the_second_make_fails(rt: HostRuntime) -> Result<(), Fail> {
-    let mut store = failing(rt.alloc(), 2, 0, 0)?;
-    for (fault, made, faults) in [(None, 1, 0), (DISK, 1, 1), (None, 2, 1)] {
-        assert!(rt; store.made() < 9);
-        assert_eq!(rt; store.make().err(), fault);
-        assert_eq!(rt; store.made(), made);
-        assert_eq!(rt; store.faults(), faults);
+fn one_make_fails(rt: HostRuntime) -> Result<(), Fail> {
+    for (failing_make, rows) in [
+        (1, [(DISK, 0, 1), (None, 1, 1), (None, 2, 1)]),
+        (2, [(None, 1, 0), (DISK, 1, 1), (None, 2, 1)]),
+        (3, [(None, 1, 0), (None, 2, 0), (DISK, 2, 1)]),
+    ] {
+        let mut store = failing(rt.alloc(), failing_make, 0, 0)?;
+        for (fault, made, faults) in rows {
+            assert!(rt; store.made() < 9);
+            assert_eq!(rt; store.make().err(), fault);
+            assert_eq!(rt; store.made(), made);
+            assert_eq!(rt; store.faults(), faults);
+        }
     }
     Ok(())
 }
