@@ -7,6 +7,15 @@ use Rattle.dd_spans.specs.PlaceMap.{PlaceMap}
 use Rattle.dd_stamps.specs.Placed.{HasPlaced}
 use Rattle.dd_stamps.specs.Stamps.{MayStamp, Spends, count_below, is_pending, one_if, pending}
 
+-- no more numbers pass than there are
+one_at_most : (b : Bool) → one_if b ≤ 1
+one_at_most true = omega arith
+one_at_most false = omega arith
+
+pub count_few : (test : ℕ → Bool) (n : ℕ) → count_below test n ≤ n
+count_few test zero = omega arith
+count_few test (suc n) = omega (arith, one_at_most (test n), count_few test n)
+
 -- the tests pass no more numbers
 one_le : (a b : Bool) → (a ≡ true → b ≡ true) → one_if a ≤ one_if b
 one_le false b less = omega arith

@@ -9,7 +9,7 @@ ghost use Rattle.dd_stamps.specs.Columns.{HasPlaces, place_at};
 ghost use Rattle.dd_stamps.specs.Gathered.{HasGathered};
 ghost use Rattle.dd_stamps.specs.Placed.{HasCopied, HasPlaced};
 
-use crate::piece::{Piece, piece_of, place_of, window_of};
+use crate::piece::{Piece, likely_col, piece_of, place_of, window_of};
 use dd_blocks::Grid;
 use dd_views::{Column, View};
 
@@ -26,7 +26,7 @@ pub(crate) fn gather(grid: &Grid, block: u64, values: &[i64], view: &View, into:
     let mut at = 0;
     for j in 0..view.cols.count {
         let column = view.column(j);
-        let piece = piece_of(grid, block, window, column);
+        let piece = piece_of(grid, block, window, column, likely_col(view, j));
         gather_column(values, column, piece, into, at);
         at += column.count as usize;
     }

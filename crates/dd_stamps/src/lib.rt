@@ -18,7 +18,8 @@
 //! they are stored, but while the kernel has them.
 //!
 //! No call but those that make a copy or a work, and `reserve`, takes memory. `gather` and `store_outputs` go column by column
-//! over a view, a few divisions for each, and copy slices where neighbours of the view are neighbours in the block.
+//! over a view, without a division where its rows follow each other, and copy slices where neighbours of the view are neighbours in
+//! the block.
 //!
 //! Inside, `piece` finds the part of a view's column that stands in a block, `gathering` and `storing` walk it, `places` takes
 //! places from another copy, `fill` makes what a block holds at first, and `rows` reads the Plan.

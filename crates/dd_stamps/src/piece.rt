@@ -1,11 +1,11 @@
 //! The part of a view's column that stands in a block.
-ghost use Rattle.std.specs.Prelude.{◌≡◌, ◌≢◌, ◌↔◌, ℕ, ◌+◌, ◌*◌, ◌-◌, ◌^◌, ◌<◌, ◌≤◌, pos, ◌≤ℤ◌};
+ghost use Rattle.std.specs.Prelude.{◌≡◌, ◌≢◌, ◌↔◌, ℕ, ◌+◌, ◌*◌, ◌/◌, ◌-◌, ◌^◌, ◌<◌, ◌≤◌, pos, ◌≤ℤ◌};
 ghost use Rattle.dd_views.specs.Positions.{position_in, stepped};
 ghost use Rattle.dd_blocks.specs.Grids.{IsGrid, block_count};
 ghost use Rattle.dd_stamps.specs.Columns.{IsColumnIn, IsPieceOf, IsWindowOf, place_at};
 
 use dd_blocks::Grid;
-use dd_views::Column;
+use dd_views::{Column, View};
 
 /// The elements of a column of a view that are in a block: by their numbers in the column, from 0, those from `from` on and
 /// below `end`. The array's position `low` has the place `place` in the block, and the ones above it the places behind.
@@ -45,9 +45,22 @@ pub(crate) fn window_of(grid: &Grid, block: u64) -> Window
     }
 }
 
-/// The piece of a column in the block that has the window. It costs one division, and two more where the step isn't 1. Clauses
-/// alone read the block.
-pub(crate) fn piece_of(grid: &Grid, _block: u64, window: Window, column: Column) -> Piece
+/// The column of the array that a column of a view is from, which has the number from 0. Nothing rests on its being right.
+pub(crate) fn likely_col(view: &View, j: u32) -> u64 {
+    let way = i64::from(j).wrapping_mul(view.cols.step);
+    let number = i64::from(view.cols.first).wrapping_add(way);
+    number.wrapping_sub(1).cast_unsigned()
+}
+
+/// The piece of a column in the block that has the window. It costs no division where the column is from the likely one of the array
+/// and its step is 1; else one for the one, and two for the other. Clauses alone read the block.
+pub(crate) fn piece_of(
+    grid: &Grid,
+    _block: u64,
+    window: Window,
+    column: Column,
+    likely: u64,
+) -> Piece
     requires grid { IsGrid grid.now }
     requires block { _block < block_count grid.now }
     requires window { IsWindowOf grid.now _block window }
@@ -55,7 +68,7 @@ pub(crate) fn piece_of(grid: &Grid, _block: u64, window: Window, column: Column)
     ensures { IsPieceOf grid.now _block column result }
 {
     let rows = u64::from(grid.rows);
-    let col = column.first / rows;
+    let col = col_of(column.first, rows, likely);
     if col < window.left || window.right <= col {
         return Piece {
             from: 0,
@@ -72,6 +85,19 @@ pub(crate) fn piece_of(grid: &Grid, _block: u64, window: Window, column: Column)
         low,
         place: ((col - window.left) * window.height) as usize,
     }
+}
+
+/// The column of the array that has a position. A product tells where it is the likely one.
+fn col_of(pos: u64, rows: u64, likely: u64) -> u64
+    requires { 0 < rows }
+    ensures { result ≡ pos / rows }
+{
+    if let Some(start) = likely.checked_mul(rows) {
+        if start <= pos && pos - start < rows {
+            return likely;
+        }
+    }
+    pos / rows
 }
 
 /// Which elements of a column stand from one position on and below another: those from the first answer on and below the

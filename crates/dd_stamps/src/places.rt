@@ -42,7 +42,12 @@ fn take_versions(ours: &mut RunMap, theirs: &RunMap, first: u64, count: u64)
     ensures taken { HasRun 0 first (first + count) ours.old.list theirs.now.list ours.new.list }
     ensures spare { ours.old.spare ≤ ours.new.spare + 2 * count }
 {
-    ours.copy_run(theirs, first, count);
+    // A place on its own is set: the call that copies a run takes longer than the copy.
+    if count == 1 {
+        ours.set(first, theirs.get(first));
+    } else {
+        ours.copy_run(theirs, first, count);
+    }
 }
 
 /// The values from `first` on up to `end` become those of the other list.
@@ -52,5 +57,10 @@ fn take_values(ours: &mut [i64], theirs: &[i64], first: usize, end: usize)
     requires within { end ≤ length ours.old }
     ensures { HasRun (pos 0) first end ours.old theirs.now ours.new }
 {
-    ours[first..end].copy_from_slice(&theirs[first..end]);
+    // As for versions.
+    if end - first == 1 {
+        ours[first] = theirs[first];
+    } else {
+        ours[first..end].copy_from_slice(&theirs[first..end]);
+    }
 }

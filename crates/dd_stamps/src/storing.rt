@@ -17,7 +17,7 @@ ghost use Rattle.dd_meaning.specs.Lists.{lists_of};
 ghost use Rattle.dd_meaning.specs.Written.{HaveLengths};
 
 use crate::gathering::{copy_one, copy_run};
-use crate::piece::{Piece, piece_of, place_of, window_of};
+use crate::piece::{Piece, likely_col, piece_of, place_of, window_of};
 use crate::rows::writes;
 use dd_blocks::{AccessRow, Grid};
 use dd_spans::RunMap;
@@ -118,7 +118,7 @@ fn store(
     let mut at = 0;
     for j in 0..view.cols.count {
         let column = view.column(j);
-        let piece = piece_of(grid, block, window, column);
+        let piece = piece_of(grid, block, window, column, likely_col(view, j));
         store_column(column, piece, from, at, task, values, versions);
         at += column.count as usize;
     }
