@@ -8,7 +8,7 @@ ghost use Rattle.dd_core.specs.Finals.{is_final};
 ghost use Rattle.dd_legal.specs.Starts.{MayStart};
 ghost use Rattle.dd_machine.specs.declared.event.Event.{Event as OneEvent};
 ghost use Rattle.dd_machine.specs.declared.task_state.TaskState.TheVariants.{Held};
-ghost use Rattle.dd_machine.specs.Bytes.{load, resident};
+ghost use Rattle.dd_machine.specs.Bytes.{load, resident, victim};
 ghost use Rattle.dd_machine.specs.Effects.{after};
 ghost use Rattle.dd_machine.specs.GoesOn.{LeadsHeldOn};
 ghost use Rattle.dd_machine.specs.Legal.{Legal, May};
@@ -16,7 +16,7 @@ ghost use Rattle.dd_machine.specs.Needed.{needed};
 ghost use Rattle.dd_machine.specs.Owed.{left, next_line};
 ghost use Rattle.dd_machine.specs.Runs.{start};
 ghost use Rattle.dd_machine.specs.Tests.{is_any, is_in_state, versions_of};
-ghost use Rattle.dd_machine.specs.Words.{IsOneOf, blocks, tasks};
+ghost use Rattle.dd_machine.specs.Words.{IsOneOf, blocks, spaces, tasks};
 ghost use Rattle.dd_next.specs.Candidates.{candidates};
 ghost use Rattle.dd_next.specs.Claims.{is_claim};
 ghost use Rattle.dd_next.specs.First.{IsFirstLegal};
@@ -171,6 +171,17 @@ impl Core {
         ensures { result ≡ next_line (left plan.now (core_state plan.now self.now).progress) }
     {
         self.tables.line(plan)
+    }
+
+    /// The block that a space spills next: of its blocks that are Here and not pinned the one that was used longest ago, or under
+    /// `mru` the one that was used last. None comes exactly where each of them is pinned. It takes no memory.
+    pub fn victim(&self, plan: &Plan, space: u32) -> Option<u32>
+        requires well { IsWellFormed plan.now }
+        requires core { IsCoreOf plan.now self.now }
+        requires space { IsOneOf (spaces plan.now) space }
+        ensures { result ≡ victim plan.now (core_state plan.now self.now) space }
+    {
+        self.tables.victim(plan, space)
     }
 
     /// How many elements moved so far.

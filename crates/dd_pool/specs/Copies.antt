@@ -1,5 +1,5 @@
 -- The copies in the memory of the spaces.
-use Rattle.std.specs.Prelude.{◌≡◌, ℕ, ◌*◌, ◌<◌, ◌≤◌, List, length, Option}
+use Rattle.std.specs.Prelude.{◌≡◌, ℕ, ◌*◌, ◌<◌, ◌≤◌, List, length, Option, None}
 use Rattle.std.specs.List.{All}
 use Rattle.dd_stamps.specs.declared.stamped.Stamped.{Stamped}
 use Rattle.dd_stamps.specs.Cells.{size_of}
@@ -22,6 +22,13 @@ pub record Holds (old new : Copies) (space block : ℕ) (copy : Option Stamped) 
   pub plan : new.plan ≡ old.plan
   pub here : held_at new space block ≡ copy
   pub others : (s b : ℕ) → IsPlace old.plan.now s b → (s ≡ space → b ≡ block → ⊥) → held_at new s b ≡ held_at old s b
+
+-- the copy of a block went from a space to another, and nothing else changed in the memory of the spaces
+pub record Shifts (old new : Copies) (space block to : ℕ) : Type 0 where
+  pub plan : new.plan ≡ old.plan
+  pub here : held_at new to block ≡ held_at old space block
+  pub gone : held_at new space block ≡ None
+  pub others : (s b : ℕ) → IsPlace old.plan.now s b → (s ≡ space → b ≡ block → ⊥) → (s ≡ to → b ≡ block → ⊥) → held_at new s b ≡ held_at old s b
 
 -- all copies are as they were
 pub record HoldsSame (old new : Copies) : Type 0 where

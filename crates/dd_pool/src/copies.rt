@@ -26,10 +26,11 @@ pub(crate) struct Copies<'p> {
 }
 
 impl<'p> Copies<'p> {
-    ghost use Rattle.std.specs.Prelude.{◌≢◌, ℕ, Some, None, IfOk, OnOk, IfErr, OnErr, IsSome, IsSomeAnd, option_copied};
+    ghost use Rattle.std.specs.Prelude.{◌≢◌, ℕ, Some, None, IfOk, OnOk, IfErr, OnErr, IfSome, OnSome, IsSome, IsSomeAnd, option_copied};
+    ghost use Rattle.slab.specs.Slab.{slab_len};
     ghost use Rattle.dd_blocks.specs.WellFormed.{IsWellFormed};
     ghost use Rattle.dd_stamps.specs.Copies.{MayStore, MayTake, Stores, TakesFrom};
-    ghost use Rattle.dd_pool.specs.Copies.{HasMoreSpare, HasRoomFor, Holds, HoldsSame, held_at, held_bytes};
+    ghost use Rattle.dd_pool.specs.Copies.{HasMoreSpare, HasRoomFor, Holds, HoldsSame, Shifts, held_at, held_bytes};
     ghost use Rattle.dd_pool.specs.Keys.{AreBoth, AreThree};
     ghost use Rattle.dd_pool.specs.Places.{IsPlace};
 
@@ -53,7 +54,8 @@ impl<'p> Copies<'p> {
     /// The copy of a block in the memory of a space.
     pub(crate) fn get(&self, space: u32, block: u32) -> Option<&Stamped<'p>>
         requires { IsPlace self.now.plan.now space block }
-        ensures { option_copied result ≡ held_at self.now space block }
+        ensures value { option_copied result ≡ held_at self.now space block }
+        ensures ours { IfSome result (λ copy. (copy.now.plan ≡ self.now.plan) × (copy.now.block ≡ block)) }
     {
         self.cells.get(place_of(self.plan, space, block))
     }
@@ -95,6 +97,8 @@ impl<'p> Copies<'p> {
         requires { IsPlace self.old.plan.now space block }
         ensures value { result ≡ held_at self.old space block }
         ensures left { Holds self.old self.new space block None }
+        ensures ours { IfSome result (λ copy. (copy.plan ≡ self.old.plan) × (copy.block ≡ block)) }
+        ensures room { OnSome result (slab_len self.new.cells.entries + 1 ≤ self.new.cells.entries.capacity) }
     {
         let at = place_of(self.plan, space, block);
         let bytes = bytes_of(self.plan, block);
@@ -105,6 +109,36 @@ impl<'p> Copies<'p> {
             }
             None => None,
         }
+    }
+
+    /// Puts a copy into the memory of a space that has none of its block, where there is room for it.
+    fn put_back(&mut self, space: u32, copy: Stamped<'p>)
+        requires plan { copy.plan ≡ self.old.plan }
+        requires place { IsPlace self.old.plan.now space copy.block }
+        requires none { held_at self.old space copy.block ≡ None }
+        requires room { slab_len self.old.cells.entries + 1 ≤ self.old.cells.entries.capacity }
+        ensures { Holds self.old self.new space copy.entry.block (Some copy.entry) }
+    {
+        let block = copy.block();
+        let at = place_of(self.plan, space, block);
+        let bytes = bytes_of(self.plan, block);
+        self.cells.put_back(at, copy);
+        add(&mut self.sizes, space, bytes);
+    }
+
+    /// A copy goes to another space, which has none of its block.
+    pub(crate) fn shift(&mut self, space: u32, block: u32, to: u32)
+        requires place { IsPlace self.old.plan.now space block }
+        requires to { IsPlace self.old.plan.now to block }
+        requires apart { to ≢ space }
+        requires there { IsSome (held_at self.old space block) }
+        requires none { held_at self.old to block ≡ None }
+        ensures { Shifts self.old self.new space block to }
+    {
+        let Some(copy) = self.take(space, block) else {
+            unreachable!()
+        };
+        self.put_back(to, copy);
     }
 
     /// Makes the spare of a copy's versions at least so many runs.

@@ -33,7 +33,7 @@ pub struct Pool<'p, D: Store> {
 impl<'p, D: Store> Pool<'p, D> {
     ghost use Rattle.std.specs.Prelude.{◌≢◌, Some, None, IfOk, OnOk, IfErr, OnErr, IfSome, IsSome, IsSomeAnd, option_copied};
     ghost use Rattle.dd_stamps.specs.Copies.{MayStore, MayTake, Stores, TakesFrom};
-    ghost use Rattle.dd_pool.specs.Copies.{HasMoreSpare, HasRoomFor, HoldsSame};
+    ghost use Rattle.dd_pool.specs.Copies.{HasMoreSpare, HasRoomFor, HoldsSame, Shifts};
     ghost use Rattle.dd_pool.specs.Keys.{AreBoth, AreThree};
     ghost use Rattle.dd_pool.specs.Pools.{HasCopy, HasNames, HasOut, KeepsCopies, KeepsRest, bytes_at, copy_at, names_of, out_at};
 
@@ -59,7 +59,8 @@ impl<'p, D: Store> Pool<'p, D> {
     /// The copy of a block in the memory of a space, where there is one. It takes no memory.
     pub fn copy_at(&self, space: u32, block: u32) -> Option<&Stamped<'p>>
         requires { IsPlace self.now.plan.now space block }
-        ensures { option_copied result ≡ copy_at self.now space block }
+        ensures value { option_copied result ≡ copy_at self.now space block }
+        ensures ours { IfSome result (λ copy. (copy.now.plan ≡ self.now.plan) × (copy.now.block ≡ block)) }
     {
         self.copies.get(space, block)
     }
@@ -96,9 +97,23 @@ impl<'p, D: Store> Pool<'p, D> {
     pub fn take(&mut self, space: u32, block: u32) -> Option<Stamped<'p>>
         requires { IsPlace self.old.plan.now space block }
         ensures value { result ≡ copy_at self.old space block }
+        ensures ours { IfSome result (λ copy. (copy.plan ≡ self.old.plan) × (copy.block ≡ block)) }
         ensures left { HasCopy self.old self.new space block None }
     {
         self.copies.take(space, block)
+    }
+
+    /// A copy goes to another space, which has none of its block. It takes no memory.
+    pub fn shift(&mut self, space: u32, block: u32, to: u32)
+        requires place { IsPlace self.old.plan.now space block }
+        requires to { IsPlace self.old.plan.now to block }
+        requires apart { to ≢ space }
+        requires there { IsSome (copy_at self.old space block) }
+        requires none { copy_at self.old to block ≡ None }
+        ensures copies { Shifts self.old.copies self.new.copies space block to }
+        ensures rest { KeepsRest self.old self.new }
+    {
+        self.copies.shift(space, block, to);
     }
 
     /// Makes the spare of a copy's versions at least so many runs. Nothing else changes.

@@ -49,3 +49,7 @@ returns-in-None-clause-left c =
     let plan = c.args.self.now.plan.now in
     let has = at_place plan _ _ c.args.space c.args.block _ _ None refl c.place_of-at.ensures.value c.in-None.ensures.left in
     record { plan = refl; here = has.here; others = elsewhere plan _ _ c.args.space c.args.block None c.requires has }
+
+pub returns-in-Some-clause-ours : goal.returns-in-Some-clause-ours
+returns-in-Some-clause-ours c =
+    c.args.self.now.ours c.args.space c.args.block c.in-Some.copy c.requires (value_at_place c.args.self.now.cells _ _ _ c.place_of-at.ensures.value c.in-Some.ensures.value)

@@ -1,0 +1,4 @@
+pub mod Endings
+pub mod Facts
+pub mod Ledgers
+pub mod Picks
