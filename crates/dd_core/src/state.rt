@@ -1,5 +1,5 @@
 //! The core.
-ghost use Rattle.std.specs.Prelude.{◌≡◌, ◌↔◌, ◌≤◌, ℕ, true, false, option_map, IfOk, IfSome, IsNone, IsTrue, OnErr, OnOk};
+ghost use Rattle.std.specs.Prelude.{◌≡◌, ◌↔◌, ◌≤◌, ℕ, true, false, is_some, option_map, IfOk, IfSome, IsNone, IsTrue, OnErr, OnOk};
 ghost use Rattle.dd_blocks.specs.declared.plan.Plan.{Plan};
 ghost use Rattle.dd_blocks.specs.WellFormed.{IsWellFormed};
 ghost use Rattle.dd_copies.specs.CopyTables.{copies_of};
@@ -200,7 +200,8 @@ impl Core {
 
     /// Where the values of a copy are. None where there is no copy.
     pub fn copy(&self, space: u32, block: u32) -> Option<CopyState>
-        ensures { (plan : Plan) → result ≡ option_map (λ c. c.state) ((core_state plan self.now).copies space block) }
+        ensures state { (plan : Plan) → result ≡ option_map (λ c. c.state) ((core_state plan self.now).copies space block) }
+        ensures any { is_some result ≡ is_in_state is_any (copies_of self.now.copies space block) }
     {
         self.tables.copies.state(space, block)
     }
