@@ -22,11 +22,16 @@ pub(crate) fn take_times(alloc: Global, plan: &Plan, step: u64, times: u32) -> R
     }
     let places = places_of(alloc, &list, size)?;
     take_all(&mut copy, &other, &places, times)?;
+    Ok(sum_of(copy.values()))
+}
+
+/// The sum of values, which wraps.
+pub(crate) fn sum_of(values: &[i64]) -> i64 {
     let mut sum = 0i64;
-    for value in copy.values() {
+    for value in values {
         sum = sum.wrapping_add(*value);
     }
-    Ok(sum)
+    sum
 }
 
 // The numbers below a size that the step divides.
