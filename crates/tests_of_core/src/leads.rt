@@ -7,7 +7,6 @@ use crate::runs::{Lines, core_after, make};
 use dd_blocks::Plan;
 use dd_core::{Core, Entry, Event, TaskState};
 use std::process::Abort;
-use std::test::Fail;
 
 /// Five blocks fit. The sixth spills the first, which the task writes.
 const FULL_SPACE: &str = "space m 160
@@ -145,21 +144,20 @@ fn is_led(
     plan: &Plan,
     task: u32,
     wanted: &[(Event, Option<Event>)],
-) -> Result<(), Fail>
+)
     requires well { IsWellFormed plan.now }
     requires core { IsCoreOf plan.now core.old }
 {
     for (event, follower) in wanted {
         assert!(rt; !core.claimable(plan, task));
         assert_eq!(rt; next_of(rt, core, plan, task), Some(*event));
-        made(rt, core, plan, *event)?;
+        made(rt, core, plan, *event);
         if let Some(follower) = follower {
-            made(rt, core, plan, *follower)?;
+            made(rt, core, plan, *follower);
         }
     }
     assert_eq!(rt; next_of(rt, core, plan, task), None);
     assert!(rt; core.claimable(plan, task));
-    Ok(())
 }
 
 /// The event that leads a task on, which has to be Held.
@@ -174,25 +172,25 @@ fn next_of(rt: &impl Abort, core: &Core, plan: &Plan, task: u32) -> Option<Event
 }
 
 /// Makes an event of the statement at work.
-fn made(rt: &impl Abort, core: &mut Core, plan: &Plan, event: Event) -> Result<(), Fail>
+fn made(rt: &impl Abort, core: &mut Core, plan: &Plan, event: Event)
     requires well { IsWellFormed plan.now }
     requires core { IsCoreOf plan.now core.old }
     ensures { IsCoreOf plan.now core.new }
 {
     let line = core.line(plan).unwrap_or(0);
-    make(rt, core, plan, Entry { line, event })
+    make(rt, core, plan, Entry { line, event });
 }
 
 #[test]
-fn a_full_space_is_cleared_for_a_task(rt: HostRuntime) -> Result<(), Fail> {
+fn a_full_space_is_cleared_for_a_task(rt: HostRuntime) {
     let plan = plan_of(&rt, rt.alloc(), FULL_SPACE);
-    let mut core = core_after(&rt, rt.alloc(), &plan, OF_FULL_SPACE)?;
-    is_led(&rt, &mut core, &plan, 1, TO_THE_FULL_SPACE)
+    let mut core = core_after(&rt, rt.alloc(), &plan, OF_FULL_SPACE);
+    is_led(&rt, &mut core, &plan, 1, TO_THE_FULL_SPACE);
 }
 
 #[test]
-fn a_spilled_source_is_lent_to_a_task(rt: HostRuntime) -> Result<(), Fail> {
+fn a_spilled_source_is_lent_to_a_task(rt: HostRuntime) {
     let plan = plan_of(&rt, rt.alloc(), SPILLED_SOURCE);
-    let mut core = core_after(&rt, rt.alloc(), &plan, OF_SPILLED_SOURCE)?;
-    is_led(&rt, &mut core, &plan, 2, TO_THE_SPILLED_SOURCE)
+    let mut core = core_after(&rt, rt.alloc(), &plan, OF_SPILLED_SOURCE);
+    is_led(&rt, &mut core, &plan, 2, TO_THE_SPILLED_SOURCE);
 }

@@ -7,7 +7,6 @@ use crate::runs::{OF_TWO_SPACES, core_after, first};
 use dd_blocks::Plan;
 use dd_core::{Core, Entry, Event};
 use std::process::Abort;
-use std::test::Fail;
 
 /// So many entries of the run, and one that isn't legal then: a copy of more than is needed, a task held before its
 /// dependency, a task claimed before its copy is current, a region closed with a copy away from home, a block picked without
@@ -40,15 +39,14 @@ fn is_refused(rt: &impl Abort, core: &Core, plan: &Plan, entry: Entry, made: usi
 }
 
 #[test]
-fn entries_out_of_place_are_refused(rt: HostRuntime) -> Result<(), Fail> {
+fn entries_out_of_place_are_refused(rt: HostRuntime) {
     let plan = plan_of(&rt, rt.alloc(), TWO_SPACES);
     for (made, line, event) in REFUSED {
-        let core = core_after(&rt, rt.alloc(), &plan, first(&rt, OF_TWO_SPACES, *made))?;
+        let core = core_after(&rt, rt.alloc(), &plan, first(&rt, OF_TWO_SPACES, *made));
         let entry = Entry {
             line: *line,
             event: *event,
         };
         is_refused(&rt, &core, &plan, entry, *made);
     }
-    Ok(())
 }

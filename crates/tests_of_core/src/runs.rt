@@ -1,5 +1,5 @@
 //! Whole runs of a core, entry by entry.
-ghost use Rattle.std.specs.Prelude.{◌≤◌, length, IfOk};
+ghost use Rattle.std.specs.Prelude.{◌≤◌, length};
 ghost use Rattle.dd_blocks.specs.Limits.{text_limit};
 ghost use Rattle.dd_blocks.specs.WellFormed.{IsWellFormed};
 ghost use Rattle.dd_core.specs.Cores.{IsCoreOf};
@@ -9,7 +9,6 @@ use dd_blocks::Plan;
 use dd_core::{Core, Entry, Event, is_final};
 use std::alloc::Global;
 use std::process::Abort;
-use std::test::Fail;
 
 /// Lines with events.
 pub(crate) type Lines = &'static [(u32, Event)];
@@ -105,7 +104,7 @@ pub(crate) const OF_THREE_ROWS: Lines = &[
 ];
 
 /// Makes an entry, which has to be legal.
-pub(crate) fn make(rt: &impl Abort, core: &mut Core, plan: &Plan, entry: Entry) -> Result<(), Fail>
+pub(crate) fn make(rt: &impl Abort, core: &mut Core, plan: &Plan, entry: Entry)
     requires well { IsWellFormed plan.now }
     requires core { IsCoreOf plan.now core.old }
     ensures { IsCoreOf plan.now core.new }
@@ -114,9 +113,8 @@ pub(crate) fn make(rt: &impl Abort, core: &mut Core, plan: &Plan, entry: Entry) 
     if is_final(entry.event) {
         core.finish(plan, entry);
     } else {
-        core.step(plan, entry)?;
+        core.step(plan, entry).expect(rt, "memory");
     }
-    Ok(())
 }
 
 /// The core after some entries, each of which has to be legal.
@@ -125,19 +123,19 @@ pub(crate) fn core_after(
     alloc: Global,
     plan: &Plan,
     entries: &[(u32, Event)],
-) -> Result<Core, Fail>
+) -> Core
     requires { IsWellFormed plan.now }
-    ensures { IfOk result (IsCoreOf plan.now) }
+    ensures { IsCoreOf plan.now result }
 {
-    let mut core = Core::new(alloc, plan)?;
+    let mut core = Core::new(alloc, plan).expect(rt, "memory");
     for (line, event) in entries {
         let entry = Entry {
             line: *line,
             event: *event,
         };
-        make(rt, &mut core, plan, entry)?;
+        make(rt, &mut core, plan, entry);
     }
-    Ok(core)
+    core
 }
 
 /// So many first entries of a run.
@@ -155,23 +153,16 @@ fn has_ended(rt: &impl Abort, core: &Core, plan: &Plan, moved: u64)
 }
 
 /// A run of a script is whole, and moves so many elements.
-fn is_whole(
-    rt: &impl Abort,
-    alloc: Global,
-    script: &str,
-    run: Lines,
-    moved: u64,
-) -> Result<(), Fail>
+fn is_whole(rt: &impl Abort, alloc: Global, script: &str, run: Lines, moved: u64)
     requires { length script.now ≤ text_limit }
 {
     let plan = plan_of(rt, alloc, script);
-    let core = core_after(rt, alloc, &plan, run)?;
+    let core = core_after(rt, alloc, &plan, run);
     has_ended(rt, &core, &plan, moved);
-    Ok(())
 }
 
 #[test]
-fn whole_runs_are_made_entry_by_entry(rt: HostRuntime) -> Result<(), Fail> {
-    is_whole(&rt, rt.alloc(), TWO_SPACES, OF_TWO_SPACES, 2)?;
-    is_whole(&rt, rt.alloc(), THREE_ROWS, OF_THREE_ROWS, 4)
+fn whole_runs_are_made_entry_by_entry(rt: HostRuntime) {
+    is_whole(&rt, rt.alloc(), TWO_SPACES, OF_TWO_SPACES, 2);
+    is_whole(&rt, rt.alloc(), THREE_ROWS, OF_THREE_ROWS, 4);
 }

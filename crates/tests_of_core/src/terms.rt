@@ -7,7 +7,6 @@ use crate::runs::{OF_THREE_ROWS, OF_TWO_SPACES, core_after, first};
 use dd_blocks::Plan;
 use dd_core::{CopyState, Core, TaskState};
 use std::process::Abort;
-use std::test::Fail;
 
 /// A version that was never written.
 const BLANK: u32 = u32::MAX;
@@ -65,46 +64,43 @@ fn are_bytes(rt: &impl Abort, core: &Core, plan: &Plan, wanted: &[(u32, u64, u64
 }
 
 #[test]
-fn a_pinned_block_is_told(rt: HostRuntime) -> Result<(), Fail> {
+fn a_pinned_block_is_told(rt: HostRuntime) {
     let plan = plan_of(&rt, rt.alloc(), TWO_SPACES);
-    let core = core_after(&rt, rt.alloc(), &plan, first(&rt, OF_TWO_SPACES, 2))?;
+    let core = core_after(&rt, rt.alloc(), &plan, first(&rt, OF_TWO_SPACES, 2));
     is_at(&rt, &core, &plan, 5, None, Some((1, 1)));
     are_copies(&rt, &core, &[(1, 1, Some(CopyState::Here)), (2, 1, None)]);
     are_homes(&rt, &core, &[(1, 1), (2, 2)]);
     are_bytes(&rt, &core, &plan, &[(1, 32, 32), (2, 0, 0)]);
-    Ok(())
 }
 
 /// In the second space stand the 16 bytes of B. The second task, Held, wants the 32 of A beside them, 32 of arguments and 32 of
 /// scratch.
 #[test]
-fn a_held_task_is_told(rt: HostRuntime) -> Result<(), Fail> {
+fn a_held_task_is_told(rt: HostRuntime) {
     let plan = plan_of(&rt, rt.alloc(), TWO_SPACES);
-    let core = core_after(&rt, rt.alloc(), &plan, first(&rt, OF_TWO_SPACES, 11))?;
+    let core = core_after(&rt, rt.alloc(), &plan, first(&rt, OF_TWO_SPACES, 11));
     is_at(&rt, &core, &plan, 10, Some(1), None);
     are_tasks(&rt, &core, &[(1, TaskState::Done), (2, TaskState::Held)]);
     are_bytes(&rt, &core, &plan, &[(1, 32, 32), (2, 112, 16)]);
-    Ok(())
 }
 
 /// The first task wants 32 bytes in a space of 64 where three blocks take 48, so the first of these left. The second has its home
 /// there since it was moved.
 #[test]
-fn a_spilled_block_is_told(rt: HostRuntime) -> Result<(), Fail> {
+fn a_spilled_block_is_told(rt: HostRuntime) {
     let plan = plan_of(&rt, rt.alloc(), THREE_ROWS);
-    let core = core_after(&rt, rt.alloc(), &plan, first(&rt, OF_THREE_ROWS, 16))?;
+    let core = core_after(&rt, rt.alloc(), &plan, first(&rt, OF_THREE_ROWS, 16));
     are_copies(&rt, &core, &[(1, 1, Some(CopyState::Out)), (2, 1, None)]);
     are_homes(&rt, &core, &[(1, 1), (2, 1), (3, 1)]);
     are_bytes(&rt, &core, &plan, &[(1, 64, 32), (2, 0, 0)]);
-    Ok(())
 }
 
 /// It is lent to the second task, whose copy of it is still blank, and takes its 16 bytes in the space of this task beside that
 /// copy. The first task runs with 16 bytes of arguments.
 #[test]
-fn a_lent_block_is_told(rt: HostRuntime) -> Result<(), Fail> {
+fn a_lent_block_is_told(rt: HostRuntime) {
     let plan = plan_of(&rt, rt.alloc(), THREE_ROWS);
-    let core = core_after(&rt, rt.alloc(), &plan, first(&rt, OF_THREE_ROWS, 20))?;
+    let core = core_after(&rt, rt.alloc(), &plan, first(&rt, OF_THREE_ROWS, 20));
     let lent = Some(CopyState::Lent(2));
     are_copies(&rt, &core, &[(1, 1, lent), (2, 1, Some(CopyState::Here))]);
     are_tasks(
@@ -113,7 +109,6 @@ fn a_lent_block_is_told(rt: HostRuntime) -> Result<(), Fail> {
         &[(1, TaskState::Running(1)), (2, TaskState::Held)],
     );
     are_bytes(&rt, &core, &plan, &[(1, 48, 48), (2, 48, 32)]);
-    Ok(())
 }
 
 /// The version at a place of a copy, which has to be there.
@@ -137,13 +132,12 @@ fn are_versions(rt: &impl Abort, core: &Core, wanted: &[u32]) {
 
 /// The second task has a blank copy of A, and gets the two elements that it needs.
 #[test]
-fn versions_of_a_copy_are_told(rt: HostRuntime) -> Result<(), Fail> {
+fn versions_of_a_copy_are_told(rt: HostRuntime) {
     let plan = plan_of(&rt, rt.alloc(), TWO_SPACES);
-    let core = core_after(&rt, rt.alloc(), &plan, first(&rt, OF_TWO_SPACES, 12))?;
+    let core = core_after(&rt, rt.alloc(), &plan, first(&rt, OF_TWO_SPACES, 12));
     are_versions(&rt, &core, &[BLANK, BLANK, BLANK, BLANK]);
-    let core = core_after(&rt, rt.alloc(), &plan, first(&rt, OF_TWO_SPACES, 13))?;
+    let core = core_after(&rt, rt.alloc(), &plan, first(&rt, OF_TWO_SPACES, 13));
     are_versions(&rt, &core, &[1, 1, BLANK, BLANK]);
-    Ok(())
 }
 
 /// After so many entries of the run of three rows: a task, or 0 for the write-back, a block and a space, with the run of places
@@ -164,24 +158,22 @@ fn is_needed(
     plan: &Plan,
     asked: (u32, u32, u32),
     wanted: Option<(u64, u64)>,
-) -> Result<(), Fail>
+)
     requires well { IsWellFormed plan.now }
     requires core { IsCoreOf plan.now core.now }
 {
     let (task, block, source) = asked;
     assert!(rt; task as usize <= plan.tasks.as_slice().len());
     assert!(rt; 1 <= block && block as usize <= plan.blocks.as_slice().len());
-    let needed = core.needed(plan, task, block, source)?;
+    let needed = core.needed(plan, task, block, source).expect(rt, "memory");
     assert_eq!(rt; needed.next_run(0), wanted);
-    Ok(())
 }
 
 #[test]
-fn needed_elements_are_told(rt: HostRuntime) -> Result<(), Fail> {
+fn needed_elements_are_told(rt: HostRuntime) {
     let plan = plan_of(&rt, rt.alloc(), THREE_ROWS);
     for (made, asked, wanted) in NEEDED {
-        let core = core_after(&rt, rt.alloc(), &plan, first(&rt, OF_THREE_ROWS, *made))?;
-        is_needed(&rt, &core, &plan, *asked, *wanted)?;
+        let core = core_after(&rt, rt.alloc(), &plan, first(&rt, OF_THREE_ROWS, *made));
+        is_needed(&rt, &core, &plan, *asked, *wanted);
     }
-    Ok(())
 }
