@@ -64,5 +64,6 @@ pub trait Store: Drop {
     /// Takes a slot for good. From then on the store counts its faults.
     fn end(&mut self, slot: Self::Slot)
         ensures made { made self.new ≡ made self.old }
-        ensures faults { faults self.new ≡ faults_with (faults self.old) (Self.Slot.faults slot) };
+        ensures faults { faults self.new ≡ faults_with (faults self.old) (Self.Slot.faults slot) }
+        ensures later { faults self.old ≤ faults self.new };
 }
