@@ -5,10 +5,11 @@ ghost use Rattle.dd_views.specs.Views.{IsViewOf};
 ghost use Rattle.dd_alias.specs.Shapes.{HaveOneShape};
 ghost use Rattle.alias_bench.specs.Tiles.{AreInArray};
 
+use crate::task::task_with;
 use anyhow::{Result, bail};
 use dd_blocks::{AccessRow, TaskRow};
-use dd_kernels::{Kernel, Mode};
-use dd_views::{Items, Part, Range, Shape, View, view_of};
+use dd_kernels::Mode;
+use dd_views::{Part, Range, Shape, View, view_of};
 use std::alloc::Global;
 
 /// An array in tiles.
@@ -70,17 +71,7 @@ fn task_on(alloc: Global, shape: Shape, written: View, left: View, right: View) 
         view: right,
         mode: Mode::Read,
     })?;
-    Ok(TaskRow {
-        line: 0,
-        region: 1,
-        kernel: Kernel::Gemm,
-        scalar: 0,
-        accesses: Items::of(accesses),
-        proc: 1,
-        deps: Items::of(Vec::new(alloc)),
-        blocks: Items::of(Vec::new(alloc)),
-        charge: 0,
-    })
+    Ok(task_with(alloc, accesses))
 }
 
 /// The tile of a row and a column, both from 0.

@@ -3,6 +3,7 @@ ghost use Rattle.std.specs.Prelude.{◌≡◌, ◌*◌, ◌^◌, ◌<◌, IfOk};
 ghost use Rattle.dd_views.specs.declared.shape.Shape.{Shape};
 ghost use Rattle.dd_views.specs.Views.{IsViewOf};
 
+use crate::elements::Elements;
 use crate::tiles::Tiling;
 use anyhow::{Result, bail};
 use dd_views::{Part, Range, Shape, View, view_of};
@@ -15,6 +16,17 @@ pub fn tiling_of(words: &[String]) -> Result<Tiling> {
     Ok(Tiling {
         tiles: tiles.parse()?,
         side: side.parse()?,
+    })
+}
+
+/// How many elements there are, and how far it is from that of a task to that of the next.
+pub fn elements_of(words: &[String]) -> Result<Elements> {
+    let [count, step] = words else {
+        bail!("words: elements TIMES COUNT STEP");
+    };
+    Ok(Elements {
+        count: count.parse()?,
+        step: step.parse()?,
     })
 }
 

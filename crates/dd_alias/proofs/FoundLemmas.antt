@@ -1,5 +1,5 @@
 -- Dependencies that are found one task after another.
-use Rattle.std.proofs.Common.{◌≡◌, ◌≢◌, ◌↔◌, ◌≤◌, ◌<◌, ◌+◌, ℕ, List, [], ◌∷◌, ◌++◌, length, get_or, ⊎_elim, ap, sym, ◌∙◌, subst, arith, add-one}
+use Rattle.std.proofs.Common.{◌≡◌, ◌≢◌, ◌↔◌, ◌≤◌, ◌<◌, ◌+◌, ℕ, List, [], ◌∷◌, ◌++◌, length, get_or, ⊎_elim, ap, sym, ◌∙◌, subst, arith}
 use Rattle.std.specs.List.{Contains}
 use Rattle.std.specs.List.Sorted.{IsStrictlyIncreasing}
 use Rattle.std.proofs.lemmas.Bool.{cases_eq, cases_lt}
@@ -78,15 +78,3 @@ found_all tasks index found all = record {
     (λ must. (all.exact u).1 (must.0, omega (arith, must.1), must.2)),
   );
 }
-
--- the task at an index, by its number
-pub task_at : (tasks : List TaskRow) (i : ℕ) (x : TaskRow) → i < length tasks → x ≡ get_or tasks i x → numbered no_task tasks (i + 1) ≡ x
-task_at tasks i x within is = rw add-one (get_or_default tasks i no_task x within ∙ sym is)
-
-pub conflicts_of : (tasks : List TaskRow) (u t : ℕ) (x y : TaskRow) → numbered no_task tasks u ≡ x → numbered no_task tasks t ≡ y → AreInConflict x y → Conflicts tasks u t
-conflicts_of tasks u t x y one other found =
-    subst (λ (y : TaskRow). AreInConflict (numbered no_task tasks u) y) (sym other) (subst (λ (x : TaskRow). AreInConflict x y) (sym one) found)
-
-pub no_conflicts_of : (tasks : List TaskRow) (u t : ℕ) (x y : TaskRow) → numbered no_task tasks u ≡ x → numbered no_task tasks t ≡ y → ¬ AreInConflict x y → ¬ Conflicts tasks u t
-no_conflicts_of tasks u t x y one other none found =
-    none (subst (λ (x : TaskRow). AreInConflict x y) one (subst (λ (y : TaskRow). AreInConflict (numbered no_task tasks u) y) other found))

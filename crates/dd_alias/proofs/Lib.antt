@@ -12,3 +12,9 @@ pub mod GapLemmas
 pub mod OrderLemmas
 pub mod PatternLemmas
 pub mod MeetingLemmas
+pub mod ExtentLemmas
+pub mod FrameLemmas
+pub mod PieceLemmas
+pub mod StepLemmas
+pub mod WaitLemmas
+pub mod OwnLemmas

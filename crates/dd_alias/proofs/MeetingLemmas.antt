@@ -18,7 +18,7 @@ meets_flipped a b flipped_a flipped_b of_a of_b = (
 pub is_pattern : (v : View) → IsView v → 0 < v.height → v.height < 2 ^ 63 → IsPattern (pattern_of v)
 is_pattern v view high small = record { rows = small_rows v view small; cols = small_cols v view high; square = view.1.square }
 
-has_element : (v : View) (x : ℕ) → IsView v → Contains (index_list v) x → HasElement (pattern_of v) (x % v.height + 1) (x / v.height + 1)
+pub has_element : (v : View) (x : ℕ) → IsView v → Contains (index_list v) x → HasElement (pattern_of v) (x % v.height + 1) (x / v.height + 1)
 has_element v x view there =
     let e = found (position v) v.part v.rows.count v.cols.count x there in
     let n = numbers v x e.0 e.1 view e.2 in (

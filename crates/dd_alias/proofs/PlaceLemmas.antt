@@ -2,11 +2,10 @@
 use Rattle.std.proofs.Common.{◌≡◌, ℕ, ◌+◌, ◌*◌, ◌-◌, ◌/◌, ◌<◌, ◌≤◌, ◌↔◌, min, max, pos, ◌<ℤ◌, ap, ⊎_elim, arith, unsigned_abs}
 use Rattle.std.specs.Int.{abs_diff}
 use Rattle.std.proofs.Math.Nat.{le_of_mul-le-mul_right, mul-le-mul_right}
-use Rattle.std.proofs.lemmas.Int.{ints}
 use Rattle.dd_views.specs.declared.span3.Span3.{Span3}
 use Rattle.dd_views.specs.IndexList.{number_at_place}
-use Rattle.dd_views.specs.Span.{IsSmallSpan, number}
-use Rattle.dd_views.proofs.SignedLemmas.{size_pos, size_up, step_cases, times_down, times_up}
+use Rattle.dd_views.specs.Span.{IsSmallSpan}
+use Rattle.dd_views.proofs.SignedLemmas.{size_pos, step_cases}
 use Rattle.dd_views.proofs.NumberAtLemmas.{down_at, steps_sum, up_at}
 use Rattle.dd_views.proofs.WayLemmas.{exact}
 use Rattle.dd_alias.specs.Congruence.{IsOnWay}

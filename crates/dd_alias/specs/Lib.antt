@@ -8,3 +8,8 @@ pub mod Places
 pub mod Patterns
 pub mod Columns
 pub mod Lines
+pub mod Intervals
+pub mod Extents
+pub mod Frames
+pub mod Steps
+pub mod Waits

@@ -74,7 +74,7 @@ fn share(a: &View, b: &View) -> bool
 }
 
 /// Whether a view has all elements between its least and greatest numbers.
-fn is_solid(view: &View) -> bool
+pub(crate) fn is_solid(view: &View) -> bool
     ensures { IsTrue result → IsSolid view.now }
 {
     is_whole(view.part) && stride(&view.rows) == 1 && stride(&view.cols) == 1

@@ -2,6 +2,7 @@
 ghost use Rattle.std.specs.Prelude.{◌≡◌, ℕ, ◌+◌, ◌*◌, ◌/◌, ◌^◌, ◌<◌, ◌≤◌, ◌↔◌, IsTrue, false, unsigned_abs};
 ghost use Rattle.dd_views.specs.IndexList.{number_at_place};
 ghost use Rattle.dd_views.specs.Span.{IsSmallSpan};
+ghost use Rattle.dd_alias.specs.Intervals.{IsBound};
 ghost use Rattle.dd_alias.specs.Places.{IsAt, IsBetween, IsIn};
 ghost use Rattle.dd_alias.specs.Runs.{HasNumber};
 
@@ -38,6 +39,7 @@ pub fn run_of(span: &Span3) -> Run
 pub fn bounds(span: &Span3) -> Interval
     requires span { IsSmallSpan span.now }
     requires some { 0 < span.now.count }
+    ensures bound { IsBound span.now result }
     ensures within { (x : ℕ) → IsIn span.now x → IsBetween result x }
     ensures solid { unsigned_abs span.now.step ≡ 1 → (x : ℕ) → IsBetween result x → IsIn span.now x }
     ensures order { result.low ≤ result.high }

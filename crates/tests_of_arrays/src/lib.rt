@@ -25,6 +25,8 @@ mod orders;
 #[cfg(test)]
 mod overlaps;
 #[cfg(test)]
+mod pairs;
+#[cfg(test)]
 mod placements;
 #[cfg(test)]
 mod ranges;
