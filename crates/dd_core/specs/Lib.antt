@@ -1,2 +1,4 @@
 pub mod Cores
 pub mod Finals
+pub mod Lines
+pub mod Due

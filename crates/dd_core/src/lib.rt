@@ -19,6 +19,7 @@
 #![tactic(auto)]
 
 mod changes;
+mod due;
 pub mod laws;
 mod state;
 

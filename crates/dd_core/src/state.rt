@@ -4,6 +4,7 @@ ghost use Rattle.dd_blocks.specs.declared.plan.Plan.{Plan};
 ghost use Rattle.dd_blocks.specs.WellFormed.{IsWellFormed};
 ghost use Rattle.dd_copies.specs.CopyTables.{copies_of};
 ghost use Rattle.dd_core.specs.Cores.{IsCoreOf, core_state};
+ghost use Rattle.dd_core.specs.Due.{AreDue};
 ghost use Rattle.dd_core.specs.Finals.{is_final};
 ghost use Rattle.dd_legal.specs.Starts.{MayStart};
 ghost use Rattle.dd_machine.specs.declared.event.Event.{Event as OneEvent};
@@ -22,6 +23,7 @@ ghost use Rattle.dd_next.specs.Claims.{is_claim};
 ghost use Rattle.dd_next.specs.First.{IsFirstLegal};
 
 use crate::changes::{advance, end};
+use crate::due::come_next;
 use dd_blocks::Plan;
 use dd_legal::{legal, may_start};
 use dd_machine::{CopyState, Entry, Event, TaskState};
@@ -171,6 +173,18 @@ impl Core {
         ensures { result ≡ next_line (left plan.now (core_state plan.now self.now).progress) }
     {
         self.tables.line(plan)
+    }
+
+    /// Whether the statements ask next for these events, all of one line. It takes no memory.
+    pub fn are_due(&self, plan: &Plan, events: &[Event]) -> bool
+        requires well { IsWellFormed plan.now }
+        requires core { IsCoreOf plan.now self.now }
+        ensures { IsTrue result ↔ AreDue plan.now (core_state plan.now self.now) events.now }
+    {
+        match self.tables.next {
+            Some(entry) => come_next(plan, self.tables.row, self.tables.made, entry.line, events),
+            None => events.is_empty(),
+        }
     }
 
     /// The block that a space spills next: of its blocks that are Here and not pinned the one that was used longest ago, or under
