@@ -119,6 +119,7 @@ impl Store for MemStore {
     fn end(&mut self, slot: MemSlot)
         ensures made { self.new.made ≡ self.old.made }
         ensures faults { self.new.faults ≡ faults_with self.old.faults slot.faults }
+        ensures later { self.old.faults ≤ self.new.faults }
         ensures told { self.new.makes ≡ self.old.makes }
         ensures counted { self.new.calls ≡ self.old.calls }
     {
