@@ -1,0 +1,19 @@
+-- A copy more, which is Here, or nothing at all.
+use Rattle.std.proofs.Common.{◌∷◌, [], refl}
+use Rattle.dd_machine.specs.declared.event.Event.TheVariants.{Put}
+use Rattle.dd_table.specs.Tables.{state_now}
+use Rattle.dd_table.proofs.CalmLemmas.{calm_put}
+use Rattle.dd_table.proofs.FactsLemmas.{keeps_either}
+use Rattle.dd_table.proofs.GivesLemmas.{not_disk, stopped}
+use Rattle.dd_table.proofs.table.Table.put.Goals as goal
+
+pub invariant_of-self : goal.invariant_of-self
+invariant_of-self g c =
+    let t = c.args.self.now in
+    let f = keeps_either t c.put.new.self _ c.put.result c.put.ensures.ok c.put.ensures.err c.put.ensures.slots (calm_put t.holding.ledger.plan.now (state_now t) c.args.block) refl in
+    record { settled = f.settled; counted = f.counted }
+
+pub returns-in-Err : goal.returns-in-Err
+returns-in-Err g c =
+    let t = c.args.self.now in
+    stopped t (Put c.args.block ∷ []) c.stop.result c.in-Err.ensures.err refl refl c.stop.ensures.grows c.stop.ensures.cause (not_disk c.stop.result c.stop.ensures.fault) c.requires.running

@@ -1,0 +1,12 @@
+pub mod Causes
+pub mod Counts
+pub mod Tables
+pub mod Partly
+pub mod Outs
+pub mod Spills
+pub mod Pulls
+pub mod Still
+pub mod Turns
+pub mod Facts
+pub mod Quiet
+pub mod Leading

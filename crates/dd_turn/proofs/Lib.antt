@@ -1,0 +1,2 @@
+pub mod ViewsLemmas
+pub mod StepsLemmas

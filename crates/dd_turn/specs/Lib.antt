@@ -1,0 +1,4 @@
+pub mod Found
+pub mod Locks
+pub mod Seats
+pub mod Turn

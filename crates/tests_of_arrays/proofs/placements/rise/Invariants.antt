@@ -1,6 +1,0 @@
-use Rattle.std.proofs.Common.{take}
-use Rattle.tests_of_arrays.proofs.RisingLemmas.{RiseTo}
-use Rattle.tests_of_arrays.proofs.placements.rise.Given as goal
-
-abbrev pub invariant-loop-row : goal.invariant-loop-row
-invariant-loop-row l = RiseTo l.last (take l.row-index l.rows)
