@@ -101,7 +101,7 @@ array_of plan laid a b within here =
     subst (λ (x : ℕ). (block_row plan x).array ≡ a) e (has_block plan laid a (b - first) within lt).array
 
 -- the blocks of an array that is live after some rows are live after their entries
-live_upto : (plan : Plan) → IsWellFormed plan → (a b : ℕ) → IsNumberIn plan.arrays a → Contains (blocks_of plan a) b
+pub live_upto : (plan : Plan) → IsWellFormed plan → (a b : ℕ) → IsNumberIn plan.arrays a → Contains (blocks_of plan a) b
     → (i : ℕ) → i ≤ rows plan → IsLive (take i plan.statements) a → is_live (entries_from plan 1 i) b ≡ true
 live_upto plan well a b within here zero le live = absurd (omega (arith, live.made.1))
 live_upto plan well a b within here (suc i) le live =

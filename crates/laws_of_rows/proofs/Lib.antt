@@ -1,0 +1,11 @@
+pub mod RowsLemmas
+pub mod HomesLemmas
+pub mod DueLemmas
+pub mod LivesLemmas
+pub mod RegionsLemmas
+pub mod TasksLemmas
+pub mod WorldLemmas
+pub mod MovedLemmas
+pub mod NamesLemmas
+pub mod TextLemmas
+pub mod JournalLemmas
