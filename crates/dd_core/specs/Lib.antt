@@ -2,3 +2,4 @@ pub mod Cores
 pub mod Finals
 pub mod Lines
 pub mod Due
+pub mod Stale

@@ -1,11 +1,12 @@
 //! The core.
-ghost use Rattle.std.specs.Prelude.{◌≡◌, ◌↔◌, ◌≤◌, ℕ, true, false, is_some, option_map, IfOk, IfSome, IsNone, IsTrue, OnErr, OnOk};
+ghost use Rattle.std.specs.Prelude.{◌≡◌, ◌↔◌, ◌≤◌, ℕ, true, false, is_some, length, option_map, IfOk, IfSome, IsNone, IsTrue, OnErr, OnOk};
 ghost use Rattle.dd_blocks.specs.declared.plan.Plan.{Plan};
 ghost use Rattle.dd_blocks.specs.WellFormed.{IsWellFormed};
 ghost use Rattle.dd_copies.specs.CopyTables.{copies_of};
 ghost use Rattle.dd_core.specs.Cores.{IsCoreOf, core_state};
 ghost use Rattle.dd_core.specs.Due.{AreDue};
 ghost use Rattle.dd_core.specs.Finals.{is_final};
+ghost use Rattle.dd_core.specs.Stale.{is_stale};
 ghost use Rattle.dd_legal.specs.Starts.{MayStart};
 ghost use Rattle.dd_machine.specs.declared.event.Event.{Event as OneEvent};
 ghost use Rattle.dd_machine.specs.declared.task_state.TaskState.TheVariants.{Held};
@@ -121,6 +122,29 @@ impl Core {
         ensures { IfOk result (λ runs. runs.list ≡ needed plan.now (core_state plan.now self.now) task block source) }
     {
         self.tables.needed(plan, task, block, source)
+    }
+
+    /// How many elements that are. It takes no memory.
+    pub fn needed_len(&self, plan: &Plan, task: u32, block: u32, source: u32) -> u64
+        requires well { IsWellFormed plan.now }
+        requires core { IsCoreOf plan.now self.now }
+        requires task { task ≤ tasks plan.now }
+        requires block { IsOneOf (blocks plan.now) block }
+        ensures { result ≡ length (needed plan.now (core_state plan.now self.now) task block source) }
+    {
+        self.tables.needed_len(plan, task, block, source)
+    }
+
+    /// Whether the home copy of a block lacks the current version of an element. A block without a home copy lacks nothing. It
+    /// takes no memory.
+    pub fn is_stale(&self, plan: &Plan, block: u32) -> bool
+        requires well { IsWellFormed plan.now }
+        requires core { IsCoreOf plan.now self.now }
+        requires block { IsOneOf (blocks plan.now) block }
+        ensures { result ≡ is_stale plan.now (core_state plan.now self.now) block }
+    {
+        let home = self.tables.home_of(block);
+        self.tables.copies.is_any(home, block) && !self.tables.is_current(plan, home, block)
     }
 
     /// What is in use of a space or wanted.

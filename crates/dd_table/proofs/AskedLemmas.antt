@@ -1,20 +1,25 @@
 -- What a table gives that asked for a block and made room for it, and what it may do next.
-use Rattle.std.proofs.Common.{◌≡◌, ℕ, ◌≤◌, Bool, true, false, cond, List, [], ◌∷◌, ◌++◌, Some, None, Bor, sym, ap, ◌∙◌, subst, append-nil, Result, Ok, Err}
+use Rattle.std.proofs.Common.{◌≡◌, ℕ, ◌≤◌, Bool, true, false, cond, List, [], ◌∷◌, ◌++◌, Some, None, Bor, refl, sym, ap, ◌∙◌, subst, ⊎_elim, append-nil, Result, Ok, Err}
+use Rattle.std.proofs.lemmas.Bool.{cases_Bool}
 use Rattle.dd_blocks.specs.declared.plan.Plan.{Plan}
 use Rattle.dd_blocks.specs.WellFormed.{IsWellFormed}
 use Rattle.dd_holding.proofs.HereLemmas.{sound_now}
 use Rattle.dd_ledger.proofs.GrowsLemmas.{state_grows, state_next}
+use Rattle.dd_machine.specs.declared.copy_state.CopyState.TheVariants.{Coming, Here}
 use Rattle.dd_machine.specs.declared.event.Event.{Event}
 use Rattle.dd_machine.specs.declared.event.Event.TheVariants.{Ask, Call, Come, Put, Rest, Shift}
 use Rattle.dd_machine.specs.Bytes.{load}
-use Rattle.dd_machine.specs.Effects.{after}
+use Rattle.dd_machine.specs.Effects.{after, in_state}
 use Rattle.dd_machine.specs.Legal.{IsNext, May, MayAsk}
 use Rattle.dd_machine.specs.Owed.{left, next_line}
 use Rattle.dd_machine.specs.Runs.{IsRun, state_after}
 use Rattle.dd_machine.specs.Sound.{IsSound}
 use Rattle.dd_machine.specs.States.{Progress, State}
-use Rattle.dd_machine.specs.Tests.{is_in_state, is_out}
+use Rattle.dd_machine.specs.Tests.{Has, is_any, is_here, is_in_state, is_out}
 use Rattle.dd_machine.specs.Words.{limit}
+use Rattle.dd_machine.proofs.ChangesLemmas.{at_copy_same}
+use Rattle.dd_machine.proofs.TestsLemmas.{in_state_there, passes_any}
+use Rattle.laws_of_progress.proofs.QuietRoom.{idle_out}
 use Rattle.dd_store.specs.declared.store.Slot.{Ghosts as SlotGhosts}
 use Rattle.dd_store.specs.declared.store.Store.{Ghosts}
 use Rattle.dd_table.specs.declared.fault.RunFault.{RunFault}
@@ -165,6 +170,32 @@ module _ {D S : Type 0} {g : Ghosts D S} {h : SlotGhosts S} where
       → AskedGives t u space block (cond (is_in_state is_out ((state_now t).copies space block)) (Call space block ∷ (Come space block ∷ [])) []) (Ok tt)
   brings_none t u space block a is =
       brings t u u space block false (Ok tt) a is (a.spills, subst (λ (events : List Event). Ends t u (Ask space block ∷ events)) (sym (append-nil a.spills)) a.ends, a.makes)
+
+  -- a copy that was there is Here then: it has come, or it wasn't Out
+  pub came_here : (u v : Table D S g h) (space block : ℕ) → Has (state_now u) space block is_out → Enters u v (Call space block ∷ (Come space block ∷ [])) → Has (state_now v) space block is_here
+  unfolding state_after
+  came_here u v space block out q =
+      let plan = u.holding.ledger.plan.now in
+      let st = state_now u in
+      let called = after plan st (Call space block) in
+      let is : state_now v ≡ after plan called (Come space block) =
+      state_grows u.holding.ledger v.holding.ledger (with_line (line_now u) (Call space block ∷ (Come space block ∷ []))) q.grows.holds.grows in
+      let any : is_in_state is_any (called.copies space block) ≡ true =
+      ap (is_in_state is_any) (at_copy_same st.copies space block (in_state Coming (st.copies space block)))
+      ∙ in_state_there is_any Coming (st.copies space block) refl (passes_any is_out (st.copies space block) out) in
+      ap (λ (x : State). is_in_state is_here (x.copies space block)) is
+      ∙ ap (is_in_state is_here) (at_copy_same called.copies space block (in_state Here (called.copies space block)))
+      ∙ in_state_there is_here Here (called.copies space block) refl any
+
+  pub stayed_here : (t u : Table D S g h) (space block : ℕ) → Asked t u space block → is_in_state is_out ((state_now u).copies space block) ≡ false
+      → Has (state_now t) space block is_any → Has (state_now u) space block is_here
+  stayed_here t u space block a not_out any =
+      let c = (state_now u).copies space block in
+      let idle = a.room.idle space block (ap (is_in_state is_any) (same_copy t.holding.ledger.plan.now (state_now t) (state_now u) space block a.room) ∙ any) in
+      ⊎_elim
+      (λ (here : is_in_state is_here c ≡ true). here)
+      (λ (away : is_in_state is_here c ≡ false). absurd (let h : true ≡ false = sym (idle_out c idle away) ∙ not_out in cc))
+      (cases_Bool (is_in_state is_here c))
 
   -- the Put that is due, and the Rest behind it
   pub put_legal : (t u : Table D S g h) (block : ℕ) → Asked t u ((state_now t).homes block) block

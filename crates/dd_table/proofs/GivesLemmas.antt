@@ -80,17 +80,24 @@ module _ {D S : Type 0} {g : Ghosts D S} {h : SlotGhosts S} where
     kept = λ f some. not_none t.cause f none some;
   }
 
+  -- nothing was entered
+  pub grows_none : (t : Table D S g h) → GrowsBy t t []
+  grows_none t = record {
+    holds = record { grows = record { plan = refl; journal = sym (append-nil t.holding.ledger.journal.items) }; names = refl };
+    opening = refl;
+    faults = omega arith;
+  }
+
+  pub ends_none : (t : Table D S g h) → t.cause ≡ None → Ends t t []
+  ends_none t none = record { enters = record { grows = grows_none t; cause = refl }; none = none }
+
   -- a cause was kept before
   pub stopped_before : (t : Table D S g h) (events : List Event) (fault : RunFault) → t.cause ≡ Some fault → Stops t t events fault
   stopped_before t events fault kept = record {
     done = [];
     rest = events;
     all = refl;
-    grows = record {
-      holds = record { grows = record { plan = refl; journal = sym (append-nil t.holding.ledger.journal.items) }; names = refl };
-      opening = refl;
-      faults = omega arith;
-    };
+    grows = grows_none t;
     cause = kept;
     disk = λ is. inl (kept ∙ ap (λ (f : RunFault). Some f) is);
     kept = λ f some. (some_same fault f (sym kept ∙ some), refl);
@@ -105,7 +112,7 @@ module _ {D S : Type 0} {g : Ghosts D S} {h : SlotGhosts S} where
   partly_none x y line events partly none = ap pick_count (sym (lines_both line partly.done partly.rest) ∙ sym (ap (with_line line) partly.all)) ∙ none
 
   -- some entries, and then others, of one line
-  grows_then : (t m u : Table D S g h) (xs ys : List Event) → GrowsBy t m (with_line (line_now t) xs) → line_now m ≡ line_now t → GrowsBy m u (with_line (line_now m) ys)
+  pub grows_then : (t m u : Table D S g h) (xs ys : List Event) → GrowsBy t m (with_line (line_now t) xs) → line_now m ≡ line_now t → GrowsBy m u (with_line (line_now m) ys)
       → GrowsBy t u (with_line (line_now t) (xs ++ ys))
   grows_then t m u xs ys p same q = record {
     holds = subst (Holds t.holding u.holding) (sym (lines_both (line_now t) xs ys))

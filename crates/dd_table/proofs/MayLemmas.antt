@@ -54,7 +54,7 @@ quiet plan st new space block r = record {
 }
 
 -- the block that was asked for is pinned, and fits where it isn't Here
-pinned_at : (plan : Plan) (st : State) (space block : ℕ) → st.pin ≡ Some (space, block) → is_pinned plan st space block ≡ true
+pub pinned_at : (plan : Plan) (st : State) (space block : ℕ) → st.pin ≡ Some (space, block) → is_pinned plan st space block ≡ true
 pinned_at plan st space block pin =
     or_left (is_pin st.pin space block) (list_any (is_used plan st space block) (range_with_len 1 (tasks plan)))
     (ap (λ (p : Option (ℕ × ℕ)). is_pin p space block) pin ∙ and_from (eqb space space) (eqb block block) (eq-eqb space space refl) (eq-eqb block block refl))

@@ -1,6 +1,7 @@
 -- What the write-back brings home, from a copy that is Here, or Out.
-use Rattle.std.proofs.Common.{◌≡◌, ℕ, Bool, true, false, cond, [], ◌∷◌, Option, Some, None, refl, sym, ap, ◌∙◌, subst, Result}
-use Rattle.std.specs.Prelude.{is_some}
+use Rattle.std.proofs.Common.{◌≡◌, ℕ, ◌<◌, Bool, true, false, cond, [], ◌∷◌, length, Option, Some, None, refl, sym, ap, ◌∙◌, subst, Result, Ok}
+use Rattle.std.specs.Prelude.{is_some, nat_lt}
+use Rattle.std.proofs.lemmas.Bool.{lt-ltb}
 use Rattle.dd_blocks.specs.declared.plan.Plan.{Plan}
 use Rattle.dd_blocks.specs.WellFormed.{IsWellFormed}
 use Rattle.dd_holding.proofs.HereLemmas.{sound_now}
@@ -8,6 +9,7 @@ use Rattle.dd_machine.specs.declared.copy_state.CopyState.{CopyState}
 use Rattle.dd_machine.specs.declared.copy_state.CopyState.TheVariants.{Here, Leaving, Out, Coming, Lent}
 use Rattle.dd_machine.specs.declared.event.Event.TheVariants.{Lend, Rest}
 use Rattle.dd_machine.specs.Legal.{May}
+use Rattle.dd_machine.specs.Needed.{needed}
 use Rattle.dd_machine.specs.States as states
 use Rattle.dd_machine.specs.States.{State}
 use Rattle.dd_machine.specs.Tests.{Has, is_here, is_here_or_lent, is_idle, is_in_state, is_out}
@@ -16,9 +18,10 @@ use Rattle.dd_store.specs.declared.store.Slot.{Ghosts as SlotGhosts}
 use Rattle.dd_store.specs.declared.store.Store.{Ghosts}
 use Rattle.dd_table.specs.declared.fault.RunFault.{RunFault}
 use Rattle.dd_table.specs.declared.table.Table.{Table}
-use Rattle.dd_table.specs.Pulls.{back_of, first_pull, pull_events}
-use Rattle.dd_table.specs.Tables.{Gives, IsLeft, state_now}
+use Rattle.dd_table.specs.Pulls.{back_of, first_pull, pull_events, pulled}
+use Rattle.dd_table.specs.Tables.{Ends, Gives, IsLeft, state_now}
 use Rattle.dd_table.proofs.DueLemmas.{left_due}
+use Rattle.dd_table.proofs.GivesLemmas.{ends_none}
 
 -- the first event, as the copy there is Out or not
 pub lend_first : (plan : Plan) (st : State) (block source : ℕ) → is_in_state is_out (st.copies source block) ≡ true → May plan st (first_pull plan st block source) → May plan st (Lend 0 block source)
@@ -68,3 +71,17 @@ module _ {D S : Type 0} {g : Ghosts D S} {h : SlotGhosts S} where
   back_pulls t u block source result not_out gives =
       let back = back_of t.holding.ledger.plan.now (state_now t) block source in
       subst (λ (b : Bool). Gives t u (cond b (Lend 0 block source ∷ (back ∷ [])) (back ∷ [])) result) (sym not_out) gives
+
+  -- nothing is needed; or something is
+  pub pulls_none : (t : Table D S g h) (block source : ℕ) → t.cause ≡ None → length (needed t.holding.ledger.plan.now (state_now t) 0 block source) ≡ 0
+      → Gives t t (pulled t.holding.ledger.plan.now (state_now t) block source) (Ok tt)
+  pulls_none t block source none is =
+      let events = pull_events t.holding.ledger.plan.now (state_now t) block source in
+      subst (λ (n : ℕ). Ends t t (cond (nat_lt 0 n) events [])) (sym is) (ends_none t none)
+
+  pub pulls_some : (t u : Table D S g h) (block source : ℕ) (result : Result (Unit {0}) RunFault) → 0 < length (needed t.holding.ledger.plan.now (state_now t) 0 block source)
+      → Gives t u (pull_events t.holding.ledger.plan.now (state_now t) block source) result → Gives t u (pulled t.holding.ledger.plan.now (state_now t) block source) result
+  pulls_some t u block source result some gives =
+      let plan = t.holding.ledger.plan.now in
+      let events = pull_events plan (state_now t) block source in
+      subst (λ (b : Bool). Gives t u (cond b events []) result) (sym (lt-ltb 0 (length (needed plan (state_now t) 0 block source)) some)) gives

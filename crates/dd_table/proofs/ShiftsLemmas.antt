@@ -1,26 +1,20 @@
 -- A block that is shifted next is live, and its home is another space.
-use Rattle.std.proofs.Common.{◌≡◌, ◌≢◌, ◌⊎◌, ℕ, zero, suc, ◌+◌, ◌-◌, ◌<◌, ◌≤◌, Bool, true, false, cond, eqb, List, [], ◌∷◌, ◌++◌, map, length, get_or, take, Option, Some, None, refl, ap, sym, ◌∙◌, subst, inl, inr, ⊎_elim, arith, add-one, take-suc}
-use Rattle.std.specs.Prelude.{Any, Contains, not}
-use Rattle.std.specs.List.{All, cons_option, filter, flat_map, fold, range_with_len}
-use Rattle.std.specs.Option.{unwrap_or}
-use Rattle.std.proofs.lemmas.Bool.{eq-eqb, ne_eqb, not-true, not_from_false}
-use Rattle.std.proofs.lemmas.Bool.Decides.{eqb_tells}
-use Rattle.std.proofs.lemmas.List.Elements.{All-get_or, All-head, Contains-append_cases, Contains-append_left, filter_map-append}
-use Rattle.std.proofs.lemmas.List.FromFn.{length-range_with_len}
-use Rattle.std.proofs.lemmas.List.Quantifiers.{Any-push}
+use Rattle.std.proofs.Common.{◌≡◌, ◌≢◌, ℕ, zero, suc, ◌+◌, ◌-◌, ◌<◌, ◌≤◌, Bool, true, false, cond, eqb, List, [], ◌∷◌, ◌++◌, map, length, get_or, take, refl, ap, sym, ◌∙◌, subst, arith}
+use Rattle.std.specs.Prelude.{Contains, not}
+use Rattle.std.specs.List.{All, filter, flat_map, fold, range_with_len}
+use Rattle.std.proofs.lemmas.Bool.{eq-eqb, ne_eqb, not-true}
+use Rattle.std.proofs.lemmas.List.Elements.{All-get_or, All-head}
 use Rattle.std.proofs.lemmas.List.Sums.{fold-append}
-use Rattle.dd_views.proofs.ListsLemmas.{filter_has, in_filter, in_range, range_has}
+use Rattle.dd_views.proofs.ListsLemmas.{in_filter}
 use Rattle.dd_blocks.specs.declared.plan.Plan.{Plan}
 use Rattle.dd_blocks.specs.declared.statement_row.StatementRow.{StatementRow}
 use Rattle.dd_blocks.specs.declared.what.What.{What}
 use Rattle.dd_blocks.specs.declared.what.What.TheVariants.{Put as Array, Print, Sum, Moved, Same, Drop, MoveTo, Region}
 use Rattle.dd_blocks.specs.Grids.{block_count}
-use Rattle.dd_blocks.specs.Homes.{home_after, home_before, space_moved_to}
-use Rattle.dd_blocks.specs.Lives.{IsLive, array_put, arrays_put, arrays_used}
-use Rattle.dd_blocks.specs.Numbered.{IsNumberIn, array_row, block_row}
+use Rattle.dd_blocks.specs.Homes.{home_before}
+use Rattle.dd_blocks.specs.Lives.{IsLive, arrays_used}
+use Rattle.dd_blocks.specs.Numbered.{array_row, block_row}
 use Rattle.dd_blocks.specs.WellFormed.{IsWellFormed, StatementNamesRows}
-use Rattle.dd_blocks.proofs.HomesLemmas.{home_more}
-use Rattle.dd_blocks.proofs.LayoutLemmas.{block_stands}
 use Rattle.dd_machine.specs.declared.entry.Entry.{Entry}
 use Rattle.dd_machine.specs.declared.event.Event.{Event}
 use Rattle.dd_machine.specs.declared.event.Event.TheVariants.{Rest, Shift}
@@ -32,13 +26,14 @@ use Rattle.dd_machine.specs.Sound.{IsSound}
 use Rattle.dd_machine.specs.States.{Progress, State}
 use Rattle.dd_machine.specs.Tests.{Has, is_any}
 use Rattle.dd_machine.specs.Words.{IsOneOf, blocks, rows, statement}
-use Rattle.dd_machine.proofs.ProgressLemmas.{row_more}
-use Rattle.laws_of_lives.proofs.EventsLemmas.{Each, each_at, each_flat, keeps_live, live_row, lives, puts_live}
-use Rattle.laws_of_lives.proofs.OrderlyLemmas.{array_of}
+use Rattle.laws_of_lives.proofs.EventsLemmas.{Each, each_at, each_flat, lives}
+use Rattle.laws_of_lives.proofs.HomesOfRows.{homes_upto}
+use Rattle.laws_of_lives.proofs.OrderlyLemmas.{live_upto}
 use Rattle.laws_of_lives.proofs.RowsLemmas.{row_is}
 use Rattle.dd_table.proofs.DueLemmas.{stands_at}
 use Rattle.dd_table.proofs.PutsLemmas.{event_in, live_within, long_as, no_row}
 
+-- the home of a block after some events
 abbrev housed : ℕ → ℕ → List Event → ℕ
 housed b home es = fold (λ h e. home_with b h e) home es
 
@@ -49,150 +44,6 @@ KeepsHome b e = (h : ℕ) → home_with b h e ≡ h
 housed_on : (b h : ℕ) (es : List Event) → Each (KeepsHome b) es → housed b h es ≡ h
 housed_on b h [] k = refl
 housed_on b h (e ∷ es) k = ap (λ (x : ℕ). housed b x es) (k.0 h) ∙ housed_on b h es k.1
-
--- the blocks of a list are shifted to a space
-shift_all : (b s : ℕ) (xs : List ℕ) → housed b s (flat_map (shifted_to s) xs) ≡ s
-shift_all b s [] = refl
-shift_all b s (x ∷ xs) = ap (λ (h : ℕ). housed b h (flat_map (shifted_to s) xs)) (same (eqb x b)) ∙ shift_all b s xs
-  where
-    same : (t : Bool) → cond t s s ≡ s
-    same true = refl
-    same false = refl
-
-shift_has : (b s h : ℕ) (xs : List ℕ) → Contains xs b → housed b h (flat_map (shifted_to s) xs) ≡ s
-shift_has b s h [] here = absurd (omega (arith, here.1))
-shift_has b s h (x ∷ xs) (zero, lt, is) = ap (λ (t : Bool). housed b (cond t s h) (flat_map (shifted_to s) xs)) (eq-eqb x b is) ∙ shift_all b s xs
-shift_has b s h (x ∷ xs) (suc k, lt, is) = shift_has b s (cond (eqb x b) s h) xs (k, omega (arith, lt), is)
-
-shift_none : (b s h : ℕ) (xs : List ℕ) → (Contains xs b → ⊥) → housed b h (flat_map (shifted_to s) xs) ≡ h
-shift_none b s h [] none = refl
-shift_none b s h (x ∷ xs) none =
-    ap (λ (t : Bool). housed b (cond t s h) (flat_map (shifted_to s) xs)) (ne_eqb x b (λ same. none (0, omega arith, same)))
-    ∙ shift_none b s h xs (λ has. none (suc has.0, omega (arith, has.1), has.2))
-
--- what the events of a row make of the home that the rows above it give
-row_homes : (plan : Plan) → IsWellFormed plan → (k b : ℕ) → k < rows plan → IsNumberIn plan.blocks b → (what : What) → (statement plan (suc k)).what ≡ what
-    → housed b (home_before plan (suc k) b) (events_of plan (suc k) what) ≡ unwrap_or (space_moved_to (block_row plan b).array what) (home_before plan (suc k) b)
-row_homes plan well k b lt is (Array a) e = housed_on b (home_before plan (suc k) b) (events_of plan (suc k) (Array a)) (each_flat (KeepsHome b) (put_there plan (suc k)) (blocks_of plan a) (λ x has. ((λ h. refl), ((λ h. refl), ((λ h. refl), tt)))))
-row_homes plan well k b lt is (Print a) e = housed_on b (home_before plan (suc k) b) (events_of plan (suc k) (Print a)) (each_flat (KeepsHome b) (brought plan (suc k)) (blocks_by_rows plan a) (λ x has. ((λ h. refl), ((λ h. refl), tt))))
-row_homes plan well k b lt is (Sum a name) e = housed_on b (home_before plan (suc k) b) (events_of plan (suc k) (Sum a name)) (each_flat (KeepsHome b) (brought plan (suc k)) (blocks_of plan a) (λ x has. ((λ h. refl), ((λ h. refl), tt))))
-row_homes plan well k b lt is Moved e = refl
-row_homes plan well k b lt is (Same a) e = refl
-row_homes plan well k b lt is (Drop a last) e = by last
-  where
-    by : (l : Bool) → housed b (home_before plan (suc k) b) (cond l (flat_map (freed plan (suc k)) (blocks_of plan a)) []) ≡ home_before plan (suc k) b
-    by true = housed_on b (home_before plan (suc k) b) (flat_map (freed plan (suc k)) (blocks_of plan a)) (each_flat (KeepsHome b) (freed plan (suc k)) (blocks_of plan a) (λ x has. ((λ h. refl), tt)))
-    by false = refl
-row_homes plan well k b lt is (Region r) e = refl
-row_homes plan well k b lt is (MoveTo a s) e = ⊎_elim
-    (λ (same : (eqb a (block_row plan b).array ≡ true) × (a ≡ (block_row plan b).array)).
-    ap (λ (t : ℕ). t) (by same.1) ∙ sym (ap (λ (t : Bool). unwrap_or (cond t (Some s) None) home) same.0))
-    (λ (other : (eqb a (block_row plan b).array ≡ false) × (a ≢ (block_row plan b).array)).
-    shift_none b s home (blocks_elsewhere plan (suc k) a s) (λ has.
-    let names : StatementNamesRows plan (MoveTo a s) = subst (StatementNamesRows plan) e (All-get_or (λ (x : StatementRow). StatementNamesRows plan x.what) plan.statements k (record { line = 0; what = Moved }) lt well.names.statements) in
-    other.1 (sym (array_of plan well.layout a b names.0 (in_filter (λ x. not (eqb (home_before plan (suc k) x) s)) (blocks_of plan a) b has).0)))
-    ∙ sym (ap (λ (t : Bool). unwrap_or (cond t (Some s) None) home) other.0))
-    (eqb_tells a (block_row plan b).array)
-  where
-    home : ℕ
-    home = home_before plan (suc k) b
-
-    by : a ≡ (block_row plan b).array → housed b home (flat_map (shifted_to s) (blocks_elsewhere plan (suc k) a s)) ≡ s
-    by same = ⊎_elim
-        (λ (there : (eqb home s ≡ true) × (home ≡ s)). ap (λ (h : ℕ). housed b h (flat_map (shifted_to s) (blocks_elsewhere plan (suc k) a s))) there.1 ∙ shift_all b s (blocks_elsewhere plan (suc k) a s))
-        (λ (away : (eqb home s ≡ false) × (home ≢ s)).
-        let i = block_stands plan well.layout b is in
-        let here : Contains (blocks_of plan a) b = subst (λ (x : ℕ). Contains (blocks_of plan x) b) (sym same) (range_has (array_row plan (block_row plan b).array).first_block (block_count (array_row plan (block_row plan b).array).grid) b i.low (let low = i.low in let high = i.high in omega (arith, low, high))) in
-        shift_has b s home (blocks_elsewhere plan (suc k) a s) (filter_has (λ x. not (eqb (home_before plan (suc k) x) s)) (blocks_of plan a) b here (not_from_false (eqb home s) away.0)))
-        (eqb_tells home s)
-
-housed_map : (b l h : ℕ) (es : List Event) → fold (λ h' (x : Entry). home_with b h' x.event) h (map (λ e. record { line = l; event = e }) es) ≡ housed b h es
-housed_map b l h [] = refl
-housed_map b l h (e ∷ es) = housed_map b l (home_with b h e) es
-
-home_row : (plan : Plan) (first row b : ℕ) (es : List Entry) → home_made first (es ++ entries_of plan row) b ≡ housed b (home_made first es b) (events_of plan row (statement plan row).what)
-unfolding home_made entries_of
-home_row plan first row b es = fold-append (λ h (x : Entry). home_with b h x.event) first es (entries_of plan row) ∙ housed_map b (statement plan row).line (home_made first es b) (events_of plan row (statement plan row).what)
-
-start_home : (first b : ℕ) → home_made first [] b ≡ first
-unfolding home_made
-start_home first b = refl
-
-homes_upto : (plan : Plan) → IsWellFormed plan → (b : ℕ) → IsNumberIn plan.blocks b → (k : ℕ) → k ≤ rows plan
-    → home_made (block_row plan b).home (entries_from plan 1 k) b ≡ home_after (block_row plan b).array (block_row plan b).home (take k plan.statements)
-homes_upto plan well b is zero le = start_home (block_row plan b).home b
-homes_upto plan well b is (suc k) le =
-    let lt : k < rows plan = omega (arith, le) in
-    let one : 1 + k ≡ suc k = omega arith in
-    let less : suc k - 1 ≡ k = omega arith in
-    let first = (block_row plan b).home in
-    let array = (block_row plan b).array in
-    let before : home_before plan (suc k) b ≡ home_after array first (take k plan.statements) = ap (λ (n : ℕ). home_after array first (take n plan.statements)) less in
-    let so_far = homes_upto plan well b is k (omega (arith, le)) in
-    ap (λ (es : List Entry). home_made first es b) (sym (row_more plan 1 k)) ∙ ap (λ (n : ℕ). home_made first (entries_from plan 1 k ++ entries_of plan n) b) one
-    ∙ home_row plan first (suc k) b (entries_from plan 1 k)
-    ∙ ap (λ (h : ℕ). housed b h (events_of plan (suc k) (statement plan (suc k)).what)) (so_far ∙ sym before)
-    ∙ row_homes plan well k b lt is (statement plan (suc k)).what refl
-    ∙ ap (unwrap_or (space_moved_to array (statement plan (suc k)).what)) before
-    ∙ sym (home_more array first plan.statements k (record { line = 0; what = Moved }) lt) ∙ ap (λ (n : ℕ). home_after array first (take n plan.statements)) (add-one k)
-
-put_or_not : (w : What) (a : ℕ) → (w ≡ Array a) ⊎ (array_put w ≢ Some a)
-put_or_not (Array b) a = ⊎_elim
-    (λ (e : (eqb b a ≡ true) × (b ≡ a)). inl (ap Array e.1))
-    (λ (e : (eqb b a ≡ false) × (b ≢ a)). inr (λ same. e.1 (let h : Some b ≡ Some a = same in cc)))
-    (eqb_tells b a)
-put_or_not (Print b) a = inr (λ same. cc)
-put_or_not (Sum b name) a = inr (λ same. cc)
-put_or_not Moved a = inr (λ same. cc)
-put_or_not (Same b) a = inr (λ same. cc)
-put_or_not (Drop b last) a = inr (λ same. cc)
-put_or_not (MoveTo b s) a = inr (λ same. cc)
-put_or_not (Region r) a = inr (λ same. cc)
-
-in_option : (o : Option ℕ) (a : ℕ) → Contains (cons_option o []) a → o ≡ Some a
-in_option None a here = absurd (omega (arith, here.1))
-in_option (Some b) a (zero, lt, is) = ap Some is
-in_option (Some b) a (suc k, lt, is) = absurd (omega (arith, lt))
-
-any_left : (P : StatementRow → Type 0) (xs ys : List StatementRow) → Any P xs → Any P (xs ++ ys)
-any_left P xs ys any =
-    let here = Contains-append_left xs ys any.1 (any.0, any.2, any.3) in
-    (here.0, any.1, here.1, here.2, any.4)
-
--- an array that is live below a row that doesn't make it is so above it
-live_before : (xs : List StatementRow) (row : StatementRow) (a : ℕ) → IsLive (xs ++ row ∷ []) a → array_put row.what ≢ Some a → IsLive xs a
-live_before xs row a live ne = record {
-  made = ⊎_elim
-      (λ (old : Contains (arrays_put xs) a). old)
-      (λ (new : Contains (cons_option (array_put row.what) []) a). absurd (ne (in_option (array_put row.what) a new)))
-      (Contains-append_cases (arrays_put xs) (cons_option (array_put row.what) []) a (subst (λ (ys : List ℕ). Contains ys a) (filter_map-append (λ (r : StatementRow). array_put r.what) xs (row ∷ [])) live.made));
-  kept = λ any. live.kept (any_left (λ (r : StatementRow). r.what ≡ Drop a true) xs (row ∷ []) any);
-}
-
--- the blocks of an array that is live after some rows are live after their entries
-live_upto : (plan : Plan) → IsWellFormed plan → (a b : ℕ) → IsNumberIn plan.arrays a → Contains (blocks_of plan a) b
-    → (i : ℕ) → i ≤ rows plan → IsLive (take i plan.statements) a → is_live (entries_from plan 1 i) b ≡ true
-live_upto plan well a b within here zero le live = absurd (omega (arith, live.made.1))
-live_upto plan well a b within here (suc i) le live =
-    let none : StatementRow = record { line = 0; what = Moved } in
-    let row = get_or plan.statements i none in
-    let split : take (suc i) plan.statements ≡ take i plan.statements ++ row ∷ [] = take-suc plan.statements i none (omega (arith, le)) in
-    let live' : IsLive (take i plan.statements ++ row ∷ []) a = subst (λ (xs : List StatementRow). IsLive xs a) split live in
-    let now : is_live (entries_from plan 1 (suc i)) b ≡ lives b (is_live (entries_from plan 1 i) b) (events_of plan (suc i) row.what) =
-    ap (λ (es : List Entry). is_live es b) (sym (row_more plan 1 i)) ∙ ap (λ (n : ℕ). is_live (entries_from plan 1 i ++ entries_of plan n) b) (let e : 1 + i ≡ suc i = omega arith in e) ∙ live_row plan (suc i) b (entries_from plan 1 i) in
-    now ∙ ⊎_elim
-    (λ (put : row.what ≡ Array a).
-    let r = in_range (array_row plan a).first_block (block_count (array_row plan a).grid) b here in
-    ap (λ (w : What). lives b (is_live (entries_from plan 1 i) b) (events_of plan (suc i) w)) put
-    ∙ puts_live plan (suc i) a b (is_live (entries_from plan 1 i) b) r.0 (omega (arith, r.1, length-range_with_len (array_row plan a).first_block (block_count (array_row plan a).grid))))
-    (λ (ne : array_put row.what ≢ Some a).
-    ap (λ (l : Bool). lives b l (events_of plan (suc i) row.what)) (live_upto plan well a b within here i (omega (arith, le)) (live_before (take i plan.statements) row a live' ne))
-    ∙ keeps_live plan (suc i) row.what b (λ c is has.
-    let names : StatementNamesRows plan row.what = All-get_or (λ (r : StatementRow). StatementNamesRows plan r.what) plan.statements i none (omega (arith, le)) well.names.statements in
-    let c_is : IsNumberIn plan.arrays c = subst (StatementNamesRows plan) is names in
-    let same : c ≡ a = sym (array_of plan well.layout c b c_is has) ∙ array_of plan well.layout a b within here in
-    live'.kept (Any-push (λ (r : StatementRow). r.what ≡ Drop a true) (take i plan.statements) row (is ∙ ap (λ (x : ℕ). Drop x true) same))))
-    (put_or_not row.what a)
 
 -- a statement that shifts the block moves its array, from another space
 abbrev Shifts : Plan → ℕ → What → Event → Type 0

@@ -1,5 +1,5 @@
 //! What the statements ask for.
-ghost use Rattle.std.specs.Prelude.{◌≡◌, ◌<◌, ◌≤◌, ◌+◌, ◌-◌, ◌^◌, ◌∷◌, [], ◌++◌, ℕ, List, None, Some, IsErrOf, IsSome, OnErr, OnOk, cond, option_map};
+ghost use Rattle.std.specs.Prelude.{◌≡◌, ◌<◌, ◌≤◌, ◌+◌, ◌-◌, ◌^◌, ◌∷◌, [], ◌++◌, ℕ, List, None, Some, IsErrOf, IsSome, OnErr, OnOk, cond, length, option_map};
 ghost use Rattle.dd_blocks.specs.Numbered.{IsNumberIn};
 ghost use Rattle.dd_blocks.specs.WellFormed.{IsWellFormed};
 ghost use Rattle.dd_causes.specs.Counts.{Rose};
@@ -9,13 +9,14 @@ ghost use Rattle.dd_machine.specs.declared.event.Event.{Event as OneEvent};
 ghost use Rattle.dd_machine.specs.declared.event.Event.TheVariants.{Ask, Begin, Call, Close, Come, Free, Put, Rest, Shift};
 ghost use Rattle.dd_machine.specs.Effects.{after};
 ghost use Rattle.dd_machine.specs.Legal.{Legal, May};
-ghost use Rattle.dd_machine.specs.Tests.{is_in_state, is_out};
+ghost use Rattle.dd_machine.specs.Needed.{needed};
+ghost use Rattle.dd_machine.specs.Tests.{Has, is_any, is_here, is_in_state, is_out};
 ghost use Rattle.dd_machine.specs.Words.{IsOneOf, blocks};
 ghost use Rattle.dd_pool.specs.Pools.{HasNames, names_of};
 ghost use Rattle.dd_core.specs.Due.{AreDue};
 ghost use Rattle.dd_table.specs.Facts.{IsSettled};
 ghost use Rattle.dd_core.specs.Lines.{with_line};
-ghost use Rattle.dd_table.specs.Pulls.{first_pull, pull_events};
+ghost use Rattle.dd_table.specs.Pulls.{first_pull, pull_events, pulled};
 ghost use Rattle.dd_table.specs.Spills.{RoomGives};
 ghost use Rattle.dd_table.specs.Tables.{Enters, Gives, IsLeft, Renames, state_now};
 
@@ -92,16 +93,18 @@ impl<'p, D: Store> Table<'p, D> {
         }
     }
 
-    /// Brings a block into the memory of a space: Ask, the spills that make room there, and Call and Come where the copy is Out.
+    /// Brings a block into the memory of a space: Ask, the spills that make room there, and Call and Come where the copy is Out. A
+    /// copy that was there is Here then.
     ///
     /// # Errors
     /// The kept cause; a fault of the disk, which the store has counted; and want of memory.
     pub fn bring(&mut self, space: u32, block: u32) -> Result<(), RunFault>
         requires well { IsWellFormed self.old.holding.ledger.plan.now }
         requires legal { self.old.cause ≡ None → May self.old.holding.ledger.plan.now (state_now self.old) (Ask space block) }
-        ensures { (spills : List OneEvent) × Gives self.old self.new (Ask space block
+        ensures gives { (spills : List OneEvent) × Gives self.old self.new (Ask space block
             ∷ (spills ++ cond (is_in_state is_out ((state_now self.old).copies space block)) (Call space block ∷ Come space block ∷ []) [])) result
             × RoomGives self.old.holding.ledger.plan.now (after self.old.holding.ledger.plan.now (state_now self.old) (Ask space block)) space spills result }
+        ensures here { OnOk result (Has (state_now self.old) space block is_any → Has (state_now self.new) space block is_here) }
     {
         if let Some(cause) = self.cause {
             return Err(cause);
@@ -149,18 +152,34 @@ impl<'p, D: Store> Table<'p, D> {
         }
     }
 
-    /// Brings what the pinned home copy needs from another space: a Back, and before it a Lend where the copy there is Out.
+    /// Brings what the pinned home copy needs from another space: a Back, and before it a Lend where the copy there is Out. Where
+    /// nothing is needed from that space, nothing is entered.
     ///
     /// # Errors
     /// The kept cause; a fault of the disk, which the store has counted; and want of memory.
     pub fn pull(&mut self, block: u32, source: u32) -> Result<(), RunFault>
         requires well { IsWellFormed self.old.holding.ledger.plan.now }
-        requires legal { self.old.cause ≡ None → May self.old.holding.ledger.plan.now (state_now self.old) (first_pull self.old.holding.ledger.plan.now (state_now self.old) block source) }
-        ensures { Gives self.old self.new (pull_events self.old.holding.ledger.plan.now (state_now self.old) block source) result }
+        requires block { IsOneOf (blocks self.old.holding.ledger.plan.now) block }
+        requires legal { self.old.cause ≡ None → 0 < length (needed self.old.holding.ledger.plan.now (state_now self.old) 0 block source)
+            → May self.old.holding.ledger.plan.now (state_now self.old) (first_pull self.old.holding.ledger.plan.now (state_now self.old) block source) }
+        ensures { Gives self.old self.new (pulled self.old.holding.ledger.plan.now (state_now self.old) block source) result }
     {
         if let Some(cause) = self.cause {
             return Err(cause);
         }
+        if self.core().needed_len(self.plan(), 0, block, source) == 0 {
+            return Ok(());
+        }
+        self.pull_some(block, source)
+    }
+
+    // Brings what the home copy needs, where that is anything.
+    fn pull_some(&mut self, block: u32, source: u32) -> Result<(), RunFault>
+        requires well { IsWellFormed self.old.holding.ledger.plan.now }
+        requires running { self.old.cause ≡ None }
+        requires legal { May self.old.holding.ledger.plan.now (state_now self.old) (first_pull self.old.holding.ledger.plan.now (state_now self.old) block source) }
+        ensures { Gives self.old self.new (pull_events self.old.holding.ledger.plan.now (state_now self.old) block source) result }
+    {
         if self.is_out(source, block) {
             self.lend(0, block, source)
         } else {

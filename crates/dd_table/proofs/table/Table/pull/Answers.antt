@@ -1,51 +1,14 @@
--- The copy there is lent where it is Out, and else it is Here.
-use Rattle.std.proofs.Common.{sym, ◌∙◌}
-use Rattle.dd_table.specs.Pulls.{pull_events}
+-- What is needed is counted first.
+use Rattle.dd_table.specs.Pulls.{pulled}
 use Rattle.dd_table.specs.Tables.{state_now}
+use Rattle.dd_table.proofs.FactsLemmas.{core_of}
 use Rattle.dd_table.proofs.GivesLemmas.{stopped_before}
-use Rattle.dd_table.proofs.PullLemmas.{back_first, back_here, back_left, back_pulls, lend_first, lend_left, lend_pulls}
 use Rattle.dd_table.proofs.table.Table.pull.Goals as goal
 
 pub returns-in-Some : goal.returns-in-Some
 returns-in-Some g c =
     let t = c.args.self.now in
-    stopped_before t (pull_events t.holding.ledger.plan.now (state_now t) c.args.block c.args.source) _ c.in-Some.is
+    stopped_before t (pulled t.holding.ledger.plan.now (state_now t) c.args.block c.args.source) _ c.in-Some.is
 
-pub lend-requires-clause-left : goal.lend-requires-clause-left
-lend-requires-clause-left g c = λ _ _.
-    let t = c.args.self.now in
-    let may = lend_first t.holding.ledger.plan.now (state_now t) c.args.block c.args.source (sym c.is_out.ensures ∙ c.if-is_out.true) (c.requires.legal c.in_default.is) in
-    lend_left t c.args.block c.args.source c.requires.well may
-
-pub lend-requires-clause-legal : goal.lend-requires-clause-legal
-lend-requires-clause-legal g c = λ _ _.
-    let t = c.args.self.now in
-    let may = lend_first t.holding.ledger.plan.now (state_now t) c.args.block c.args.source (sym c.is_out.ensures ∙ c.if-is_out.true) (c.requires.legal c.in_default.is) in
-    may
-
-pub returns-then-is_out : goal.returns-then-is_out
-returns-then-is_out g c = lend_pulls c.args.self.now c.lend.new.self c.args.block c.args.source c.lend.result (sym c.is_out.ensures ∙ c.if-is_out.true) c.lend.ensures
-
-pub copy-requires-clause-left : goal.copy-requires-clause-left
-copy-requires-clause-left g c = λ _ _.
-    let t = c.args.self.now in
-    let not_out = sym c.is_out.ensures ∙ c.if-is_out.false in
-    let may = back_first t.holding.ledger.plan.now (state_now t) c.args.block c.args.source not_out (c.requires.legal c.in_default.is) in
-    back_left t c.args.block c.args.source c.requires.well may
-
-pub copy-requires-clause-here : goal.copy-requires-clause-here
-copy-requires-clause-here g c = λ _ _.
-    let t = c.args.self.now in
-    let not_out = sym c.is_out.ensures ∙ c.if-is_out.false in
-    let may = back_first t.holding.ledger.plan.now (state_now t) c.args.block c.args.source not_out (c.requires.legal c.in_default.is) in
-    back_here t c.args.block c.args.source c.in_default.is not_out may
-
-pub copy-requires-clause-legal : goal.copy-requires-clause-legal
-copy-requires-clause-legal g c = λ _ _.
-    let t = c.args.self.now in
-    let not_out = sym c.is_out.ensures ∙ c.if-is_out.false in
-    let may = back_first t.holding.ledger.plan.now (state_now t) c.args.block c.args.source not_out (c.requires.legal c.in_default.is) in
-    may
-
-pub returns-else-is_out : goal.returns-else-is_out
-returns-else-is_out g c = back_pulls c.args.self.now c.copy.new.self c.args.block c.args.source c.copy.result (sym c.is_out.ensures ∙ c.if-is_out.false) c.copy.ensures
+pub needed_len-requires-clause-core : goal.needed_len-requires-clause-core
+needed_len-requires-clause-core g c = core_of c.args.self.now.holding.ledger c.plan.result c.core.result.now c.requires.well c.plan.ensures c.core.ensures
