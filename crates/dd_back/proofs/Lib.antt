@@ -1,0 +1,9 @@
+mod BroughtLemmas
+mod ClosingLemmas
+mod ComingLemmas
+mod EndLemmas
+mod EnteredLemmas
+mod FreeingLemmas
+mod HomingLemmas
+mod PinnedLemmas
+mod PullingLemmas
