@@ -5,4 +5,6 @@ pub use Rattle.dd_check.specs.Faults
 pub use Rattle.dd_meaning.specs.Text
 pub mod Words
 pub mod Messages
+pub mod Origins
 pub mod Outcomes
+pub mod Causes

@@ -6,7 +6,7 @@ use Rattle.dd_check.specs.declared.fault.Fault.{Fault}
 use Rattle.dd_check.specs.declared.kind.Kind.{Kind}
 use Rattle.dd_check.specs.declared.kind.Kind.TheVariants.{NotText, TooLong, BadForm, UnknownStatement, BadNumber, UnknownPart, UnknownName, NameTaken, LateMachine, NoProc, BadShape, UnknownKernel, ArgCount, BadAccess, BadRange, NotSquare, ShapeMismatch, WrongPlace, TooMany, BlockTooLarge, TaskTooLarge, UnendedRegion}
 use Rattle.dd_session.specs.declared.status.Status.{Status}
-use Rattle.dd_session.specs.declared.status.Status.TheVariants.{Done, Memory, Words, Script, ReadFault, WriteFault}
+use Rattle.dd_session.specs.declared.status.Status.TheVariants.{Done, Memory, Words, Script, ReadFault, WriteFault, DiskFault}
 
 abbrev pub kind_name : Kind → List ℕ
 kind_name NotText = codes "NotText"
@@ -45,6 +45,7 @@ message_of Words = codes "usage: ddeps [--workers N] [--journal] run|plain|gen N
 message_of (Script fault) = fault_text fault
 message_of ReadFault = codes "ddeps: read fault\n"
 message_of WriteFault = codes "ddeps: write fault\n"
+message_of DiskFault = codes "ddeps: disk fault\n"
 
 abbrev pub exit_of : Status → ℕ
 exit_of Done = 0
@@ -53,3 +54,4 @@ exit_of Words = 2
 exit_of (Script fault) = 3
 exit_of ReadFault = 4
 exit_of WriteFault = 5
+exit_of DiskFault = 6

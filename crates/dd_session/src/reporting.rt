@@ -50,5 +50,6 @@ pub fn report<E: Sink>(status: Status, err: &mut E) -> Result<(), IoFault>
         Status::Script(fault) => report_fault(fault, err),
         Status::ReadFault => write_pieces(err, &[b"ddeps: read fault\n"]),
         Status::WriteFault => write_pieces(err, &[b"ddeps: write fault\n"]),
+        Status::DiskFault => write_pieces(err, &[b"ddeps: disk fault\n"]),
     }
 }

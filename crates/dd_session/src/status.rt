@@ -1,6 +1,10 @@
-ghost use Rattle.std.specs.Prelude.{◌≡◌};
+ghost use Rattle.std.specs.Prelude.{◌≡◌, ◌+◌, []};
+ghost use Rattle.dd_table.specs.Counts.{pick_count};
 
 use dd_check::Fault;
+use dd_machine::Entry;
+use dd_store::Store;
+use std::alloc::Global;
 
 /// How a command ended.
 #[derive(Clone, Copy, Debug, PartialEq, Eq)]
@@ -17,6 +21,8 @@ pub enum Status {
     ReadFault,
     /// The sink of the output failed.
     WriteFault,
+    /// The store of spilled blocks failed.
+    DiskFault,
 }
 
 impl Status {
@@ -33,12 +39,37 @@ impl Status {
             Status::Script(_) => 3,
             Status::ReadFault => 4,
             Status::WriteFault => 5,
+            Status::DiskFault => 6,
         }
     }
 }
 
 /// What a command came to.
-#[derive(Clone, Copy, Debug, PartialEq, Eq)]
-pub struct Outcome {
+#[derive(Drop)]
+pub struct Outcome<D: Store> {
     pub status: Status,
+    /// The entries of the run. None unless a run began.
+    pub journal: Vec<Entry>,
+    /// How many elements moved.
+    pub moved: u64,
+    /// The store that was handed in.
+    pub store: D,
+}
+
+impl<D: Store> Outcome<D> {
+    /// What a command came to that began no run over the store.
+    pub(crate) fn unrun(alloc: Global, status: Status, store: D) -> Outcome<D>
+        ensures status { result.status ≡ status }
+        ensures journal { result.journal.items ≡ [] }
+        ensures moved { result.moved ≡ 0 }
+        ensures store { result.store ≡ store }
+        ensures made { D.made result.store ≡ D.made store + pick_count result.journal.items }
+    {
+        Outcome {
+            status,
+            journal: Vec::new(alloc),
+            moved: 0,
+            store,
+        }
+    }
 }

@@ -1,8 +1,17 @@
 ghost use Rattle.std.specs.Prelude.{◌≡◌, ℕ, List, [], ◌∷◌, ◌++◌, ◌↔◌, ◌⊎◌, codes, IsTrue, OnOk, OnErr};
-ghost use Rattle.dd_session.specs.Words.{AreCommand};
+ghost use Rattle.dd_session.specs.Words.{IsFound};
 
 use std::alloc::{AllocError, Global};
 use std::marker::Model;
+
+/// What the program is asked to do.
+#[derive(Clone, Copy, Debug, PartialEq, Eq)]
+pub(crate) enum Command {
+    /// To run a script over its spaces.
+    Run,
+    /// To run it on whole arrays.
+    Plain,
+}
 
 /// The words of a command, after the program's name.
 #[derive(Debug, Drop)]
@@ -39,19 +48,26 @@ impl CommandWords {
         Ok(())
     }
 
-    /// Whether they are one word that names a command.
-    pub(crate) fn are_command(&self) -> bool
-        ensures { IsTrue result ↔ AreCommand self.now }
+    /// The command that they name: one word. None where they name none.
+    pub(crate) fn command(&self) -> Option<Command>
+        ensures { IsFound self.now result }
     {
         match self.words.as_slice() {
-            [word] => is_command(word.as_str()),
-            _ => false,
+            [word] => command_named(word.as_str()),
+            _ => None,
         }
     }
 }
 
-fn is_command(word: &str) -> bool
-    ensures { IsTrue result ↔ ((word.now ≡ codes "run") ⊎ (word.now ≡ codes "plain")) }
+/// The command of a word.
+fn command_named(word: &str) -> Option<Command>
+    ensures { IsFound (word.now ∷ []) result }
 {
-    word == "run" || word == "plain"
+    if word == "run" {
+        Some(Command::Run)
+    } else if word == "plain" {
+        Some(Command::Plain)
+    } else {
+        None
+    }
 }

@@ -6,6 +6,7 @@
 
 use dd_io::{StdSink, StdSource};
 use dd_session::{CommandWords, Status, report, run_words};
+use dd_store::DirStore;
 use std::alloc::AllocError;
 use std::env::{Env, FillError};
 use std::process::ExitCode;
@@ -31,13 +32,24 @@ fn command_words(rt: &HostRuntime) -> Result<CommandWords, AllocError> {
     Ok(words)
 }
 
-fn main(rt: HostRuntime) -> ExitCode {
+/// The folder of spilled blocks, where the program runs.
+const SPILL_FOLDER: &str = "ddeps-spill";
+
+/// Runs the command of the command line over a folder of slots.
+fn run(rt: &HostRuntime) -> Result<Status, AllocError> {
+    let words = command_words(rt)?;
+    let store = DirStore::new(rt, rt.alloc(), SPILL_FOLDER)?;
     let mut src = StdSource::new(rt.stdin());
     let mut out = StdSink::new(rt.stdout());
     let mut err = StdSink::new(rt.stderr());
-    let status = match command_words(&rt) {
-        Ok(words) => run_words(rt.alloc(), &words, &mut src, &mut out, &mut err).status,
+    Ok(run_words(rt.alloc(), &words, &mut src, &mut out, &mut err, store).status)
+}
+
+fn main(rt: HostRuntime) -> ExitCode {
+    let status = match run(&rt) {
+        Ok(status) => status,
         Err(AllocError) => {
+            let mut err = StdSink::new(rt.stderr());
             let _ = report(Status::Memory, &mut err);
             Status::Memory
         }

@@ -2,6 +2,7 @@
 use crate::memory_runs::{Ends, PLAIN, TWICE, run_over};
 use dd_io::{MemSink, MemSource, Sink};
 use dd_session::{CommandWords, Status, run_words};
+use dd_store::NeverFails;
 use std::alloc::{AllocError, Global};
 use std::process::Abort;
 use std::test::Fail;
@@ -113,7 +114,8 @@ fn nothing_is_reported_where_all_is_done(rt: HostRuntime) -> Result<(), Fail> {
     let mut src = MemSource::new(text, 4096, Vec::new(rt.alloc()));
     let mut out = MemSink::new(rt.alloc(), 64, 64, Vec::new(rt.alloc()))?;
     let mut err = MemSink::new(rt.alloc(), 64, 64, Vec::from_slice(rt.alloc(), &[1])?)?;
-    let outcome = run_words(rt.alloc(), &words, &mut src, &mut out, &mut err);
+    let store = NeverFails::new(rt.alloc());
+    let outcome = run_words(rt.alloc(), &words, &mut src, &mut out, &mut err, store);
     assert_eq!(rt; outcome.status, Status::Done);
     assert!(rt; err.write(b"x").is_err());
     Ok(())

@@ -1,6 +1,7 @@
 //! Whole runs over a source and sinks in memory.
 use dd_io::{MemSink, MemSource};
 use dd_session::{CommandWords, Status, run_words};
+use dd_store::NeverFails;
 use std::alloc::{AllocError, Global};
 
 /// The two by two array of ones, added to itself.
@@ -50,7 +51,14 @@ pub fn run_over(
     let mut src = MemSource::new(bytes, ends.given.max(1), reads);
     let mut out = MemSink::new(alloc, ends.room, ends.taken.max(1), writes)?;
     let mut err = MemSink::new(alloc, 256, 7, Vec::new(alloc))?;
-    let outcome = run_words(alloc, &command, &mut src, &mut out, &mut err);
+    let outcome = run_words(
+        alloc,
+        &command,
+        &mut src,
+        &mut out,
+        &mut err,
+        NeverFails::new(alloc),
+    );
     Ok(Seen {
         status: outcome.status,
         out: Vec::from_slice(alloc, out.bytes())?,
